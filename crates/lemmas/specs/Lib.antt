@@ -1,0 +1,4 @@
+pub mod Order
+pub mod Lists
+pub mod ListLaws
+pub mod Little

@@ -1,0 +1,237 @@
+-- `widen` is the least widening of a range such that every file overlapping it lies inside. Assumes nothing.
+use Prim.Native.Nat.{ℕ, zero, suc, _+_, _≤_, _<_}
+use mathlib.Core.Path.{_≡_, refl, sym, _∙_, ap}
+use mathlib.Core.Logic.{_↔_}
+use mathlib.Core.Bool.{Bool, true, false, not, _&&_, _||_, cond}
+use mathlib.Core.List.{List, [], _∷_, _++_, map, List·Memᴰ as In}
+use mathlib.Core.Option.{Option, none, some}
+use native.Mathlib.Omega.{arith}
+use lib.ListN.{length}
+use borrow.Author.Tests.{not-true, not-false}
+use Rattle.lemmas.specs.Order.{StrictWeak, clash, asym}
+use Rattle.model.specs.Key.{user, userBefore, userBefore-order, user-same}
+use Rattle.lemmas.specs.Lists.{find}
+use Rattle.lemmas.specs.ListLaws.{and-left, and-right, both, find-some, find-none, tally, tally-le, tally-less, tally-none}
+use Rattle.model.specs.File.{File}
+use Rattle.model.specs.Compact.{Range, overlaps, inside, earlier, later, stretch, sticksOut, widenBy, widen}
+
+-- `wide` contains `r`
+pub record Within (r wide : Range) : Type 0 where
+  pub start : userBefore (r .start) (wide .start) ≡ false
+  pub stop : userBefore (wide .stop) (r .stop) ≡ false
+
+-- every file overlapping the range lies inside
+abbrev pub Closed : List File → Range → Type 0
+Closed fs r = (f : File) → In f fs → overlaps r f ≡ true → inside r f ≡ true
+
+-- what document 01 asks of the widening `w` of `r`
+pub record LeastWidening (fs : List File) (r w : Range) : Type 0 where
+  pub contains : Within r w
+  pub closed : Closed fs w
+  pub least : (v : Range) → Within r v → Closed fs v → Within w v
+
+-- ---- the order on user keys, `a ≤ b` as `userBefore b a ≡ false`
+le-refl : (a : List ℕ) → userBefore a a ≡ false
+le-refl a = userBefore-order .irrefl a
+
+le-trans : (a b c : List ℕ) → userBefore b a ≡ false → userBefore c b ≡ false → userBefore c a ≡ false
+le-trans a b c h k = userBefore-order .ntrans c b a k h
+
+earlier-l : (a b : List ℕ) → userBefore a (earlier a b) ≡ false
+unfolding earlier
+earlier-l a b = go (userBefore b a) refl
+  where
+    go : (t : Bool) → userBefore b a ≡ t → userBefore a (cond t b a) ≡ false
+    go true e = asym userBefore userBefore-order b a e
+    go false e = le-refl a
+
+earlier-r : (a b : List ℕ) → userBefore b (earlier a b) ≡ false
+unfolding earlier
+earlier-r a b = go (userBefore b a) refl
+  where
+    go : (t : Bool) → userBefore b a ≡ t → userBefore b (cond t b a) ≡ false
+    go true e = le-refl b
+    go false e = e
+
+earlier-least : (a b c : List ℕ) → userBefore a c ≡ false → userBefore b c ≡ false → userBefore (earlier a b) c ≡ false
+unfolding earlier
+earlier-least a b c h k = go (userBefore b a)
+  where
+    go : (t : Bool) → userBefore (cond t b a) c ≡ false
+    go true = k
+    go false = h
+
+later-l : (a b : List ℕ) → userBefore (later a b) a ≡ false
+unfolding later
+later-l a b = go (userBefore a b) refl
+  where
+    go : (t : Bool) → userBefore a b ≡ t → userBefore (cond t b a) a ≡ false
+    go true e = asym userBefore userBefore-order a b e
+    go false e = le-refl a
+
+later-r : (a b : List ℕ) → userBefore (later a b) b ≡ false
+unfolding later
+later-r a b = go (userBefore a b) refl
+  where
+    go : (t : Bool) → userBefore a b ≡ t → userBefore (cond t b a) b ≡ false
+    go true e = le-refl b
+    go false e = e
+
+later-least : (a b c : List ℕ) → userBefore c a ≡ false → userBefore c b ≡ false → userBefore c (later a b) ≡ false
+unfolding later
+later-least a b c h k = go (userBefore a b)
+  where
+    go : (t : Bool) → userBefore c (cond t b a) ≡ false
+    go true = k
+    go false = h
+
+-- ---- ranges
+pub within-refl : (r : Range) → Within r r
+within-refl r = record { start = le-refl (r .start); stop = le-refl (r .stop) }
+
+pub within-trans : (a b c : Range) → Within a b → Within b c → Within a c
+within-trans a b c h k = record { start = le-trans (c .start) (b .start) (a .start) (k .start) (h .start); stop = le-trans (a .stop) (b .stop) (c .stop) (h .stop) (k .stop) }
+
+-- two tests, each said as "not before"
+two : (a b : Bool) → a ≡ false → b ≡ false → (not a && not b) ≡ true
+two a b e f = rw (e, f)
+
+one-of : (a b : Bool) → (not a && not b) ≡ true → a ≡ false
+one-of a b h = not-true a (and-left (not a) (not b) h)
+
+other-of : (a b : Bool) → (not a && not b) ≡ true → b ≡ false
+other-of a b h = not-true b (and-right (not a) (not b) h)
+
+-- what the two tests say
+pub record Overlaps (r : Range) (f : File) : Type 0 where
+  pub left : userBefore (user (f .largest)) (r .start) ≡ false
+  pub right : userBefore (r .stop) (user (f .smallest)) ≡ false
+
+pub record Inside (r : Range) (f : File) : Type 0 where
+  pub left : userBefore (user (f .smallest)) (r .start) ≡ false
+  pub right : userBefore (r .stop) (user (f .largest)) ≡ false
+
+pub overlaps-says : (r : Range) (f : File) → overlaps r f ≡ true ↔ Overlaps r f
+unfolding overlaps
+overlaps-says r f = let a = userBefore (user (f .largest)) (r .start) in let b = userBefore (r .stop) (user (f .smallest)) in
+    (λ h. record { left = one-of a b h; right = other-of a b h }, λ o. two a b (o .left) (o .right))
+
+pub inside-says : (r : Range) (f : File) → inside r f ≡ true ↔ Inside r f
+unfolding inside
+inside-says r f = let a = userBefore (user (f .smallest)) (r .start) in let b = userBefore (r .stop) (user (f .largest)) in
+    (λ h. record { left = one-of a b h; right = other-of a b h }, λ o. two a b (o .left) (o .right))
+
+pub overlaps-mono : (r v : Range) (f : File) → Within r v → overlaps r f ≡ true → overlaps v f ≡ true
+overlaps-mono r v f w h =
+    let o = overlaps-says r f .0 h in
+    overlaps-says v f .1 record {
+      left = le-trans (v .start) (r .start) (user (f .largest)) (w .start) (o .left);
+      right = le-trans (user (f .smallest)) (r .stop) (v .stop) (o .right) (w .stop);
+    }
+
+pub inside-mono : (r v : Range) (f : File) → Within r v → inside r f ≡ true → inside v f ≡ true
+inside-mono r v f w h =
+    let o = inside-says r f .0 h in
+    inside-says v f .1 record {
+      left = le-trans (v .start) (r .start) (user (f .smallest)) (w .start) (o .left);
+      right = le-trans (user (f .largest)) (r .stop) (v .stop) (o .right) (w .stop);
+    }
+
+stretch-within : (r : Range) (f : File) → Within r (stretch r f)
+unfolding stretch
+stretch-within r f = record { start = earlier-l (r .start) (user (f .smallest)); stop = later-l (r .stop) (user (f .largest)) }
+
+stretch-inside : (r : Range) (f : File) → inside (stretch r f) f ≡ true
+unfolding stretch
+stretch-inside r f = inside-says (stretch r f) f .1 record { left = earlier-r (r .start) (user (f .smallest)); right = later-r (r .stop) (user (f .largest)) }
+
+stretch-least : (r v : Range) (f : File) → Within r v → inside v f ≡ true → Within (stretch r f) v
+unfolding stretch
+stretch-least r v f w h = let o = inside-says v f .0 h in record {
+  start = earlier-least (r .start) (user (f .smallest)) (v .start) (w .start) (o .left);
+  stop = later-least (r .stop) (user (f .largest)) (v .stop) (w .stop) (o .right);
+}
+
+sticks-overlaps : (r : Range) (f : File) → sticksOut r f ≡ true → overlaps r f ≡ true
+unfolding sticksOut
+sticks-overlaps r f h = and-left (overlaps r f) (not (inside r f)) h
+
+sticks-outside : (r : Range) (f : File) → sticksOut r f ≡ true → inside r f ≡ false
+unfolding sticksOut
+sticks-outside r f h = not-true (inside r f) (and-right (overlaps r f) (not (inside r f)) h)
+
+no-stick : (r : Range) (f : File) → sticksOut r f ≡ false → overlaps r f ≡ true → inside r f ≡ true
+unfolding sticksOut
+no-stick r f h o = go (inside r f) refl
+  where
+    go : (t : Bool) → inside r f ≡ t → inside r f ≡ true
+    go true e = e
+    go false e = clash (both (overlaps r f) (not (inside r f)) o (rw e)) h
+
+-- ---- the loop: by cases on what `find` finds
+one-more : ℕ → List File → Range → Option File → Range
+one-more n fs r none = r
+one-more n fs r (some f) = widenBy n fs (stretch r f)
+
+widenBy-suc : (n : ℕ) (fs : List File) (r : Range) → widenBy (suc n) fs r ≡ one-more n fs r (find (sticksOut r) fs)
+unfolding widenBy one-more
+widenBy-suc n fs r = go (find (sticksOut r) fs) refl
+  where
+    go : (o : Option File) → find (sticksOut r) fs ≡ o → widenBy (suc n) fs r ≡ one-more n fs r o
+    go none e = rw (e, widenBy)
+    go (some f) e = rw (e, widenBy)
+
+widenBy-contains : (n : ℕ) (fs : List File) (r : Range) → Within r (widenBy n fs r)
+unfolding widenBy one-more
+widenBy-contains zero fs r = within-refl r
+widenBy-contains (suc n) fs r = rw widenBy-suc (go (λ f. widenBy-contains n fs (stretch r f)) (find (sticksOut r) fs))
+  where
+    go : ((f : File) → Within (stretch r f) (widenBy n fs (stretch r f))) → (o : Option File) → Within r (one-more n fs r o)
+    go ih none = within-refl r
+    go ih (some f) = within-trans r (stretch r f) (widenBy n fs (stretch r f)) (stretch-within r f) (ih f)
+
+widenBy-least : (n : ℕ) (fs : List File) (r v : Range) → Within r v → Closed fs v → Within (widenBy n fs r) v
+unfolding widenBy one-more
+widenBy-least zero fs r v w c = w
+widenBy-least (suc n) fs r v w c = rw widenBy-suc (go (λ f. widenBy-least n fs (stretch r f) v) (find (sticksOut r) fs) refl)
+  where
+    go : ((f : File) → Within (stretch r f) v → Closed fs v → Within (widenBy n fs (stretch r f)) v) → (o : Option File) → find (sticksOut r) fs ≡ o → Within (one-more n fs r o) v
+    go ih none e = w
+    go ih (some f) e = let k = find-some (sticksOut r) fs f e in
+        ih f (stretch-least r v f w (c f (k .1) (overlaps-mono r v f w (sticks-overlaps r f (k .0))))) c
+
+-- files that are not inside
+outside : Range → File → Bool
+outside r f = not (inside r f)
+
+widenBy-closed : (n : ℕ) (fs : List File) (r : Range) → tally (outside r) fs ≤ n → Closed fs (widenBy n fs r)
+unfolding widenBy one-more outside
+widenBy-closed zero fs r h = λ f m o. not-false (inside r f) (tally-none (outside r) fs f h m)
+widenBy-closed (suc n) fs r h = rw widenBy-suc (go (λ f. widenBy-closed n fs (stretch r f)) (find (sticksOut r) fs) refl)
+  where
+    go : ((f : File) → tally (outside (stretch r f)) fs ≤ n → Closed fs (widenBy n fs (stretch r f))) → (o : Option File) → find (sticksOut r) fs ≡ o → Closed fs (one-more n fs r o)
+    go ih none e = λ f m o. no-stick r f (find-none (sticksOut r) fs f e m) o
+    go ih (some f) e =
+        let k = find-some (sticksOut r) fs f e in
+        let shrinks : (g : File) → outside (stretch r f) g ≡ true → outside r g ≡ true = λ g u. back g (inside r g) refl u in
+        let less = tally-less (outside (stretch r f)) (outside r) fs f shrinks (k .1) (rw stretch-inside) (rw (sticks-outside r f (k .0))) in
+        ih f (omega arith)
+      where
+        back : (g : File) (t : Bool) → inside r g ≡ t → outside (stretch r f) g ≡ true → outside r g ≡ true
+        back g true e′ u = clash (inside-mono r (stretch r f) g (stretch-within r f) e′) (not-true (inside (stretch r f) g) u)
+        back g false e′ u = rw e′
+
+pub widen-least : (fs : List File) (r : Range) → LeastWidening fs r (widen fs r)
+unfolding widen
+widen-least fs r = record {
+  contains = widenBy-contains (length fs) fs r;
+  closed = widenBy-closed (length fs) fs r (tally-le (outside r) fs);
+  least = λ v w c. widenBy-least (length fs) fs r v w c;
+}
+
+-- the words of document 01 leave one range: two least widenings contain each other
+pub one-widening : (fs : List File) (r v w : Range) → LeastWidening fs r v → LeastWidening fs r w → v ≡ w
+one-widening fs r v w h k =
+    let a = h .least w (k .contains) (k .closed) in
+    let b = k .least v (h .contains) (h .closed) in
+    λ i. record { start = user-same (v .start) (w .start) (a .start) (b .start) i; stop = user-same (v .stop) (w .stop) (b .stop) (a .stop) i }

@@ -1,0 +1,1 @@
+// Document 01 as definitions and laws: its substance is specs/.
