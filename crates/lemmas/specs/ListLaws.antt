@@ -1,28 +1,37 @@
 -- Laws of Lists.antt. Assumes nothing.
-use Prim.Native.Nat.{ℕ, zero, suc, _+_, _≤_, _<_}
-use mathlib.Core.Path.{_≡_, refl, sym, _∙_, ap}
+use Prim.Native.Nat.{ℕ, zero, suc, _+_, _*_, _≤_, _<_}
+use mathlib.Core.Path.{_≡_, refl, sym, _∙_, ap, subst}
 use mathlib.Core.Logic.{_⊎_, inl, inr, _↔_}
 use mathlib.Core.Bool.{Bool, true, false, not, _&&_, _||_, cond}
 use mathlib.Core.List.{List, [], _∷_, _++_, map, List·Memᴰ as In, List·Memᴰ·head as here, List·Memᴰ·tail as there, List·Memᴰ·not-nil as not-nil, Memᴰ·append-left as in-left, Memᴰ·append-right as in-right}
 use mathlib.Core.Option.{Option, none, some}
 use native.Mathlib.Omega.{arith}
-use lib.ListN.{length, getD, set, length-append}
-use lib.Dec.{eqb}
-use borrow.Author.Tests.{eqb-true, eq-eqb, not-true, not-false}
+use lib.ListN.{length, getD, set, drop, replicate, length-append, drop-of-length-le, List·getD-eq-default}
+use lib.Seq.{drop-cons, getD-set-same, getD-set-other}
+use lib.Dec.{eqb, ltb}
+use borrow.Author.Tests.{eqb-true, eqb-false, eq-eqb, ne-eqb, ltb-true, ltb-false, not-true, not-false}
+use lib.Arith.{lt-of-le-ne}
 use Rattle.lemmas.specs.Order.{clash, StrictWeak, asym}
-use Rattle.lemmas.specs.Lists.{push, keep, any, all, find, insert, sort, chain, join, member, distinct}
+use Rattle.lemmas.specs.Lists.{push, keep, any, all, find, insert, sort, chain, join, isEmpty, member, distinct, sum, upFrom}
 
 -- a conjunction of tests, taken apart and put together
 pub and-left : (a b : Bool) → (a && b) ≡ true → a ≡ true
 and-left true b h = refl
 and-left false b h = h
 
+-- its second part
 pub and-right : (a b : Bool) → (a && b) ≡ true → b ≡ true
 and-right true b h = h
 and-right false b h = clash h refl
 
+-- both parts
 pub both : (a b : Bool) → a ≡ true → b ≡ true → (a && b) ≡ true
 both a b e f = rw (e, f)
+
+-- a second part that holds
+pub and-true : (b : Bool) → (b && true) ≡ b
+and-true true = refl
+and-true false = refl
 
 module _ {A : Type 0} where
   pub find-some : (p : A → Bool) (xs : List A) (x : A) → find p xs ≡ some x → (p x ≡ true) × In x xs
@@ -279,10 +288,60 @@ module _ {A : Type 0} where
       go i true = omega arith
       go i false = i
 
+-- a tally over what is made of the items
 pub tally-map : {A B : Type 0} (p : B → Bool) (g : A → B) (xs : List A) → tally p (map g xs) ≡ tally (λ x. p (g x)) xs
 unfolding tally
 tally-map p g [] = refl
 tally-map p g (x ∷ xs) = ap (λ n. cond (p (g x)) (suc n) n) (tally-map p g xs)
+
+-- items spread over the n numbers from k on, each to its own: for each number the items whose number it is
+unfoldable pub spread : {A : Type 0} → (A → ℕ) → ℕ → ℕ → List A → List A
+spread key k n xs = join (map (λ l. keep (λ x. eqb (key x) l) xs) (upFrom k n))
+
+-- none are spread
+spread-none : {A : Type 0} (key : A → ℕ) (p : A → Bool) (k n : ℕ) → tally p (spread key k n []) ≡ 0
+unfolding spread join upFrom keep tally
+spread-none key p k zero = refl
+spread-none key p k (suc n) = spread-none key p (suc k) n
+
+-- one more item
+module _ {A : Type 0} (key : A → ℕ) (p : A → Bool) (x : A) (xs : List A) where
+  -- its number is below: it is passed by
+  spread-below : (k n : ℕ) → key x < k → tally p (spread key k n (x ∷ xs)) ≡ tally p (spread key k n xs)
+  unfolding spread join upFrom keep push
+  spread-below k zero h = refl
+  spread-below k (suc n) h =
+      let ne : eqb (key x) k ≡ false = ne-eqb (key x) k (λ q. omega arith) in
+      let here-k = keep (λ y. eqb (key y) k) xs in
+      rw ne (tally-append p here-k (spread key (suc k) n (x ∷ xs)) ∙ rw (spread-below (suc k) n (omega arith)) (sym (tally-append p here-k (spread key (suc k) n xs))))
+
+  -- its number is among them: it is counted once
+  spread-within : (k n : ℕ) → k ≤ key x → key x < k + n → tally p (spread key k n (x ∷ xs)) ≡ tally p (x ∷ []) + tally p (spread key k n xs)
+  unfolding spread join upFrom keep push
+  spread-within k zero h g = absurd (omega arith)
+  spread-within k (suc n) h g = go (eqb (key x) k) refl (spread-below (suc k) n) (spread-within (suc k) n)
+    where
+      go : (t : Bool) → eqb (key x) k ≡ t
+          → (key x < suc k → tally p (spread key (suc k) n (x ∷ xs)) ≡ tally p (spread key (suc k) n xs))
+          → (suc k ≤ key x → key x < suc k + n → tally p (spread key (suc k) n (x ∷ xs)) ≡ tally p (x ∷ []) + tally p (spread key (suc k) n xs))
+          → tally p (push (eqb (key x) k) x (keep (λ y. eqb (key y) k) xs) ++ spread key (suc k) n (x ∷ xs)) ≡ tally p (x ∷ []) + tally p (keep (λ y. eqb (key y) k) xs ++ spread key (suc k) n xs)
+      go true e below ih =
+          let c = keep (λ y. eqb (key y) k) xs in
+          let q : key x ≡ k = eqb-true (key x) k e in
+          rw e (omega (arith, below (omega arith), tally-append p (x ∷ c) (spread key (suc k) n (x ∷ xs)), tally-append p (x ∷ []) c, tally-append p c (spread key (suc k) n xs)))
+      go false e below ih =
+          let c = keep (λ y. eqb (key y) k) xs in
+          let q : key x ≡ k → ⊥ = eqb-false (key x) k e in
+          let r : suc k ≤ key x = omega (arith, q) in
+          rw e (omega (arith, ih r (omega arith), tally-append p c (spread key (suc k) n (x ∷ xs)), tally-append p c (spread key (suc k) n xs)))
+
+-- a tally over what is spread is one over the whole, where each has its number among those
+pub tally-spread : {A : Type 0} (key : A → ℕ) (p : A → Bool) (k n : ℕ) (xs : List A) → ((x : A) → In x xs → (k ≤ key x) × (key x < k + n)) → tally p (spread key k n xs) ≡ tally p xs
+unfolding tally
+tally-spread key p k n [] h = spread-none key p k n
+tally-spread key p k n (x ∷ xs) h =
+    let w = h x (here refl) in
+    omega (arith, spread-within key p x xs k n (w .0) (w .1), tally-append p (x ∷ []) xs, tally-spread key p k n xs (λ y m. h y (there m)))
 
 -- numbers that are distinct: each stands at most once
 any-tally : {A : Type 0} (p : A → Bool) (xs : List A) → any p xs ≡ false → tally p xs ≡ 0
@@ -294,6 +353,7 @@ any-tally p (x ∷ xs) e = go (any-tally p xs) (p x) refl
     go ih true f = clash (rw f) e
     go ih false f = ih (rw f at e)
 
+-- each number at most once
 pub distinct-tally : (ns : List ℕ) (n : ℕ) → distinct ns ≡ true → tally (λ m. eqb m n) ns ≤ 1
 unfolding tally distinct member
 distinct-tally [] n d = omega arith
@@ -307,6 +367,7 @@ distinct-tally (m ∷ ns) n d = go (distinct-tally ns n (and-right (not (member 
         let z′ : tally (λ k. eqb k n) ns ≡ 0 = rw q at z in
         omega arith
 
+-- none passes where none is counted
 any-none : {A : Type 0} (p : A → Bool) (xs : List A) → tally p xs ≡ 0 → any p xs ≡ false
 unfolding any tally
 any-none p [] e = refl
@@ -316,6 +377,7 @@ any-none p (x ∷ xs) e = go (any-none p xs) (p x) refl
     go ih true f = absurd (let z : suc (tally p xs) ≡ 0 = rw f at e in omega arith)
     go ih false f = rw f (ih (rw f at e))
 
+-- each number at most once: no number twice
 pub distinct-of-tally : (ns : List ℕ) → ((n : ℕ) → tally (λ m. eqb m n) ns ≤ 1) → distinct ns ≡ true
 unfolding tally distinct member
 distinct-of-tally [] h = refl
@@ -395,3 +457,391 @@ module _ {A : Type 0} where
   getD-in [] i d h = absurd (omega arith)
   getD-in (x ∷ xs) zero d h = here refl
   getD-in (x ∷ xs) (suc i) d h = there (getD-in xs i d (omega arith))
+
+-- ---- tests on lists, numbers without repetition
+-- `any` by a witness
+pub any-in : {A : Type 0} (q : A → Bool) (xs : List A) → any q xs ≡ true → (x : A) × In x xs × (q x ≡ true)
+unfolding any
+any-in q [] e = clash e refl
+any-in q (x ∷ xs) e = go (any-in q xs) (q x) refl
+  where
+    go : (any q xs ≡ true → (y : _) × In y xs × (q y ≡ true)) → (t : Bool) → q x ≡ t → (y : _) × In y (x ∷ xs) × (q y ≡ true)
+    go ih true f = (x, here refl, f)
+    go ih false f = let w = ih (rw f at e) in (w .0, there (w .1), w .2)
+
+-- no member of the whole: none of the parts
+member-append : (n : ℕ) (xs ys : List ℕ) → member n (xs ++ ys) ≡ false → (member n xs ≡ false) × (member n ys ≡ false)
+unfolding member any
+member-append n [] ys h = (refl, h)
+member-append n (x ∷ xs) ys h = go (member-append n xs ys) (eqb x n) refl
+  where
+    go : (member n (xs ++ ys) ≡ false → (member n xs ≡ false) × (member n ys ≡ false)) → (t : Bool) → eqb x n ≡ t → (member n (x ∷ xs) ≡ false) × (member n ys ≡ false)
+    go ih true e = clash (rw e) h
+    go ih false e = let r = ih (rw e at h) in (rw e (r .0), r .1)
+
+-- numbers without repetition: so are the parts
+pub distinct-append : (xs ys : List ℕ) → distinct (xs ++ ys) ≡ true → (distinct xs ≡ true) × (distinct ys ≡ true)
+unfolding distinct
+distinct-append [] ys h = (refl, h)
+distinct-append (x ∷ xs) ys h =
+    let r = distinct-append xs ys (and-right (not (member x (xs ++ ys))) (distinct (xs ++ ys)) h) in
+    let m = member-append x xs ys (not-true (member x (xs ++ ys)) (and-left (not (member x (xs ++ ys))) (distinct (xs ++ ys)) h)) in
+    (both (not (member x xs)) (distinct xs) (rw (m .0)) (r .0), r .1)
+
+-- a disjunction that fails: the second fails
+pub or-right : (a b : Bool) → (a || b) ≡ false → b ≡ false
+or-right true b e = clash refl e
+or-right false b e = e
+
+-- a number in the stretch that passes is a witness
+pub upFrom-any : (q : ℕ → Bool) (k n j : ℕ) → k ≤ j → j < k + n → q j ≡ true → any q (upFrom k n) ≡ true
+unfolding upFrom any
+upFrom-any q k zero j a b h = absurd (omega arith)
+upFrom-any q k (suc n) j a b h = go (upFrom-any q (suc k) n j) (eqb k j) refl
+  where
+    or-true : (x y : Bool) → y ≡ true → (x || y) ≡ true
+    or-true true y e = refl
+    or-true false y e = e
+
+    go : (suc k ≤ j → j < suc k + n → q j ≡ true → any q (upFrom (suc k) n) ≡ true) → (t : Bool) → eqb k j ≡ t → (q k || any q (upFrom (suc k) n)) ≡ true
+    go ih true e = let i : q k ≡ true = rw (eqb-true k j e) h in rw i
+    go ih false e = let n′ = eqb-false k j e in or-true (q k) (any q (upFrom (suc k) n)) (ih (lt-of-le-ne a n′) (omega arith) h)
+
+-- ---- a list with some items left out
+pub data Sub {A : Type 0} : List A → List A → Type 0 where
+  end : Sub [] []
+  skip : {y : A} {xs ys : List A} → Sub xs ys → Sub xs (y ∷ ys)
+  also : {y : A} {xs ys : List A} → Sub xs ys → Sub (y ∷ xs) (y ∷ ys)
+
+module _ {A : Type 0} where
+  pub sub-none : (ys : List A) → Sub [] ys
+  sub-none [] = end
+  sub-none (y ∷ ys) = skip (sub-none ys)
+
+  pub sub-all : (ys : List A) → Sub ys ys
+  sub-all [] = end
+  sub-all (y ∷ ys) = also (sub-all ys)
+
+  pub sub-keep : (q : A → Bool) (ys : List A) → Sub (keep q ys) ys
+  unfolding keep push
+  sub-keep q [] = end
+  sub-keep q (y ∷ ys) = go (sub-keep q ys) (q y)
+    where
+      go : Sub (keep q ys) ys → (t : Bool) → Sub (push t y (keep q ys)) (y ∷ ys)
+      go ih true = also ih
+      go ih false = skip ih
+
+  -- one item of a list, alone
+  pub sub-one : (x : A) (ys : List A) → In x ys → Sub (x ∷ []) ys
+  sub-one x (y ∷ ys) (here e) = subst (λ (z : A). Sub (z ∷ []) (y ∷ ys)) (sym e) (also (sub-none ys))
+  sub-one x (y ∷ ys) (there m) = skip (sub-one x ys m)
+
+  pub sub-trans : {xs ys zs : List A} → Sub xs ys → Sub ys zs → Sub xs zs
+  sub-trans s end = s
+  sub-trans s (skip t) = skip (sub-trans s t)
+  sub-trans (skip s) (also t) = skip (sub-trans s t)
+  sub-trans (also s) (also t) = also (sub-trans s t)
+
+  pub sub-in : {xs ys : List A} (x : A) → Sub xs ys → In x xs → In x ys
+  sub-in x end m = m
+  sub-in x (skip s) m = there (sub-in x s m)
+  sub-in x (also s) (here e) = here e
+  sub-in x (also s) (there m) = there (sub-in x s m)
+
+  -- of two lists, one after the other
+  pub sub-append : {xs ys as′ bs : List A} → Sub xs ys → Sub as′ bs → Sub (xs ++ as′) (ys ++ bs)
+  sub-append end t = t
+  sub-append (skip s) t = skip (sub-append s t)
+  sub-append (also s) t = also (sub-append s t)
+
+  pub sub-length : {xs ys : List A} → Sub xs ys → length xs ≤ length ys
+  sub-length end = omega arith
+  sub-length (skip s) = omega (arith, sub-length s)
+  sub-length (also s) = omega (arith, sub-length s)
+
+-- ---- neighbours without the first
+module _ {A : Type 0} (r : A → A → Bool) where
+  pub chain-rest : (x : A) (xs : List A) → chain r (x ∷ xs) ≡ true → chain r xs ≡ true
+  unfolding chain
+  chain-rest x [] c = refl
+  chain-rest x (y ∷ ys) c = and-right (r x y) (chain r (y ∷ ys)) c
+
+-- ---- neighbours, where the relation goes through a good item between
+module _ {A : Type 0} (r : A → A → Bool) (Good : A → Type 0) (through : (f g h : A) → Good g → r f g ≡ true → r g h ≡ true → r f h ≡ true) where
+  -- the first stands so to every later one
+  pub chain-first : (x y : A) (xs : List A) → ((f : A) → In f xs → Good f) → chain r (x ∷ xs) ≡ true → In y xs → r x y ≡ true
+  unfolding chain
+  chain-first x y [] g c m = absurd (not-nil m)
+  chain-first x y (z ∷ zs) g c m = go (chain-first z y zs (λ f i. g f (there i)) (and-right (r x z) (chain r (z ∷ zs)) c)) m
+    where
+      step : r x z ≡ true
+      step = and-left (r x z) (chain r (z ∷ zs)) c
+
+      go : (In y zs → r z y ≡ true) → In y (z ∷ zs) → r x y ≡ true
+      go ih (here e) = subst (λ (f : A). r x f ≡ true) (sym e) step
+      go ih (there k) = through x z y (g z (here refl)) step (ih k)
+
+  chain-cons : (y : A) (zs : List A) → chain r zs ≡ true → ((f : A) → In f zs → r y f ≡ true) → chain r (y ∷ zs) ≡ true
+  unfolding chain
+  chain-cons y [] c h = refl
+  chain-cons y (z ∷ zs) c h = both (r y z) (chain r (z ∷ zs)) (h z (here refl)) c
+
+  pub sub-chain : {xs ys : List A} → ((f : A) → In f ys → Good f) → Sub xs ys → chain r ys ≡ true → chain r xs ≡ true
+  sub-chain g end c = c
+  sub-chain g (skip {y = y} {ys = ys} s) c = sub-chain (λ f i. g f (there i)) s (chain-rest r y ys c)
+  sub-chain g (also {y = y} {xs = xs} {ys = ys} s) c = go xs s (sub-chain (λ f i. g f (there i)) s (chain-rest r y ys c))
+    where
+      go : (zs : List A) → Sub zs ys → chain r zs ≡ true → chain r (y ∷ zs) ≡ true
+      go zs s c′ = chain-cons y zs c′ (λ f i. chain-first y f ys (λ f i. g f (there i)) c (sub-in f s i))
+
+-- ---- a sorted list stays as it is when sorted
+module _ {A : Type 0} (lt : A → A → Bool) where
+  insert-least : (x : A) (xs : List A) → chain (λ a b. not (lt b a)) (x ∷ xs) ≡ true → insert lt x xs ≡ x ∷ xs
+  unfolding insert chain
+  insert-least x [] c = refl
+  insert-least x (y ∷ ys) c =
+      let e : lt y x ≡ false = not-true (lt y x) (and-left (not (lt y x)) (chain (λ a b. not (lt b a)) (y ∷ ys)) c) in
+      rw e
+
+  pub sort-sorted : (xs : List A) → chain (λ a b. not (lt b a)) xs ≡ true → sort lt xs ≡ xs
+  unfolding sort chain
+  sort-sorted [] c = refl
+  sort-sorted (x ∷ []) c = insert-least x [] c
+  sort-sorted (x ∷ y ∷ ys) c =
+      let ih : sort lt (y ∷ ys) ≡ y ∷ ys = sort-sorted (y ∷ ys) (and-right (not (lt y x)) (chain (λ a b. not (lt b a)) (y ∷ ys)) c) in
+      ap (λ (r : List A). insert lt x r) ih ∙ insert-least x (y ∷ ys) c
+
+-- ---- numbers from k on, n of them
+pub upFrom-in : (k n j : ℕ) → In j (upFrom k n) ↔ ((k ≤ j) × (j < k + n))
+unfolding upFrom
+upFrom-in k zero j = (λ m. absurd (not-nil m), λ h. absurd (omega arith))
+upFrom-in k (suc n) j = let r = upFrom-in (suc k) n j in (λ m. from (r .0) m, λ h. to (r .1) (h .0) (h .1) (eqb j k) refl)
+  where
+    from : (In j (upFrom (suc k) n) → (suc k ≤ j) × (j < suc k + n)) → In j (k ∷ upFrom (suc k) n) → (k ≤ j) × (j < k + suc n)
+    from ih (here e) = (omega arith, omega arith)
+    from ih (there m) = let h = ih m in (omega (arith, h .0), omega (arith, h .1))
+
+    to : ((suc k ≤ j) × (j < suc k + n) → In j (upFrom (suc k) n)) → k ≤ j → j < k + suc n → (t : Bool) → eqb j k ≡ t → In j (k ∷ upFrom (suc k) n)
+    to ih a b true e = here (eqb-true j k e)
+    to ih a b false e = let i : suc k ≤ j = lt-of-le-ne a (λ q. eqb-false j k e (sym q)) in there (ih (i, omega arith))
+
+-- the first number that passes is found
+pub find-upFrom : (q : ℕ → Bool) (k n b : ℕ) → k ≤ b → b < k + n → q b ≡ true → ((j : ℕ) → j < b → q j ≡ false) → find q (upFrom k n) ≡ some b
+unfolding find upFrom
+find-upFrom q k zero b l u e h = absurd (omega arith)
+find-upFrom q k (suc n) b l u e h = go (find-upFrom q (suc k) n b) (eqb k b) refl
+  where
+    go : (suc k ≤ b → b < suc k + n → q b ≡ true → ((j : ℕ) → j < b → q j ≡ false) → find q (upFrom (suc k) n) ≡ some b) → (t : Bool) → eqb k b ≡ t
+        → cond (q k) (some k) (find q (upFrom (suc k) n)) ≡ some b
+    go ih true t = let same : k ≡ b = eqb-true k b t in let z : q k ≡ true = rw same e in rw z (ap (λ (x : ℕ). some x) same)
+    go ih false t = let i : k < b = lt-of-le-ne l (eqb-false k b t) in rw (h k i) (ih i (omega arith) e h)
+
+-- ---- `find`, `keep`
+module _ {A : Type 0} where
+  pub find-same : (p q : A → Bool) (xs : List A) → ((x : A) → p x ≡ q x) → find p xs ≡ find q xs
+  unfolding find
+  find-same p q [] h = refl
+  find-same p q (x ∷ xs) h = rw (h x, find-same p q xs h)
+
+  pub keep-append : (p : A → Bool) (xs ys : List A) → keep p (xs ++ ys) ≡ keep p xs ++ keep p ys
+  unfolding keep push
+  keep-append p [] ys = refl
+  keep-append p (x ∷ xs) ys = go (keep-append p xs ys) (p x)
+    where
+      go : keep p (xs ++ ys) ≡ keep p xs ++ keep p ys → (t : Bool) → push t x (keep p (xs ++ ys)) ≡ push t x (keep p xs) ++ keep p ys
+      go ih true = ap (λ (r : List A). x ∷ r) ih
+      go ih false = ih
+
+  -- all pass: all are kept
+  pub keep-all : (p : A → Bool) (xs : List A) → ((x : A) → In x xs → p x ≡ true) → keep p xs ≡ xs
+  unfolding keep push
+  keep-all p [] h = refl
+  keep-all p (x ∷ xs) h = rw (h x (here refl)) (ap (λ (r : List A). x ∷ r) (keep-all p xs (λ y m. h y (there m))))
+
+  -- a weaker test keeps what the stronger one keeps
+  pub keep-sub : (p q : A → Bool) (xs : List A) → ((x : A) → p x ≡ true → q x ≡ true) → Sub (keep p xs) (keep q xs)
+  unfolding keep push
+  keep-sub p q [] h = end
+  keep-sub p q (x ∷ xs) h = go (keep-sub p q xs h) (p x) (q x) (h x)
+    where
+      go : Sub (keep p xs) (keep q xs) → (s t : Bool) → (s ≡ true → t ≡ true) → Sub (push s x (keep p xs)) (push t x (keep q xs))
+      go ih true true k = also ih
+      go ih true false k = clash (k refl) refl
+      go ih false true k = skip ih
+      go ih false false k = ih
+
+  -- nothing left out: the same list
+  pub sub-same : {xs ys : List A} → Sub xs ys → length xs ≡ length ys → xs ≡ ys
+  sub-same end e = refl
+  sub-same (skip s) e = absurd (omega (arith, sub-length s))
+  sub-same (also {y = y} s) e = ap (λ (r : List A). y ∷ r) (sub-same s (omega arith))
+
+-- ---- the first that nothing is before
+module _ {A : Type 0} (lt : A → A → Bool) where
+  -- found by going through the list once
+  unfoldable pub leastOf : A → List A → A
+  leastOf a [] = a
+  leastOf a (x ∷ xs) = leastOf (cond (lt x a) x a) xs
+
+  -- nothing in the list is before it
+  unfoldable pub isLeast : List A → A → Bool
+  isLeast ys x = all (λ y. not (lt y x)) ys
+
+module _ {A : Type 0} (lt : A → A → Bool) (o : StrictWeak lt) where
+  -- a later item that is before the first: the first says nothing more
+  least-skip : (a x : A) (xs : List A) → lt x a ≡ true → (y : A) → isLeast lt (a ∷ x ∷ xs) y ≡ isLeast lt (x ∷ xs) y
+  unfolding isLeast all
+  least-skip a x xs e y = go (lt x y) (lt a y) refl refl
+    where
+      go : (s t : Bool) → lt x y ≡ s → lt a y ≡ t → (not (lt a y) && (not (lt x y) && all (λ z. not (lt z y)) xs)) ≡ (not (lt x y) && all (λ z. not (lt z y)) xs)
+      go true true f g = rw (f, g)
+      go true false f g = rw (f, g)
+      go false true f g = clash (o .trans x a y e g) f
+      go false false f g = rw (f, g)
+
+  -- a later item that is not before the first says nothing more
+  least-pass : (a x : A) (xs : List A) → lt x a ≡ false → (y : A) → isLeast lt (a ∷ x ∷ xs) y ≡ isLeast lt (a ∷ xs) y
+  unfolding isLeast all
+  least-pass a x xs e y = go (lt a y) (lt x y) refl refl
+    where
+      go : (s t : Bool) → lt a y ≡ s → lt x y ≡ t → (not (lt a y) && (not (lt x y) && all (λ z. not (lt z y)) xs)) ≡ (not (lt a y) && all (λ z. not (lt z y)) xs)
+      go true t f g = rw f
+      go false true f g = clash g (o .ntrans x a y e f)
+      go false false f g = rw (f, g)
+
+  -- an item not before the first is no first least where the first is not
+  least-not : (a x : A) (xs : List A) → lt x a ≡ false → isLeast lt (a ∷ x ∷ xs) a ≡ false → isLeast lt (a ∷ x ∷ xs) x ≡ false
+  unfolding isLeast
+  least-not a x xs e n = go (isLeast lt (a ∷ x ∷ xs) x) refl
+    where
+      go : (t : Bool) → isLeast lt (a ∷ x ∷ xs) x ≡ t → isLeast lt (a ∷ x ∷ xs) x ≡ false
+      go false f = f
+      go true f =
+          let each = all-in (λ y. not (lt y x)) (a ∷ x ∷ xs) .0 f in
+          let yes : isLeast lt (a ∷ x ∷ xs) a ≡ true = all-in (λ y. not (lt y a)) (a ∷ x ∷ xs) .1 (λ y m. rw (o .ntrans y x a (not-true (lt y x) (each y m)) e)) in
+          clash yes n
+
+  least-alone : (a : A) → isLeast lt (a ∷ []) a ≡ true
+  unfolding isLeast all
+  least-alone a = rw (o .irrefl a)
+
+  -- an item before the first: the first is not least
+  least-fails : (a x : A) (xs : List A) → lt x a ≡ true → isLeast lt (a ∷ x ∷ xs) a ≡ false
+  unfolding isLeast
+  least-fails a x xs e = flip (isLeast lt (a ∷ x ∷ xs) a) refl
+    where
+      flip : (t : Bool) → isLeast lt (a ∷ x ∷ xs) a ≡ t → isLeast lt (a ∷ x ∷ xs) a ≡ false
+      flip false f = f
+      flip true f = clash e (not-true (lt x a) (all-in (λ y. not (lt y a)) (a ∷ x ∷ xs) .0 f x (there (here refl))))
+
+  -- the first item that nothing is before is the one found by going through the list once
+  pub find-least : (a : A) (xs : List A) → find (isLeast lt (a ∷ xs)) (a ∷ xs) ≡ some (leastOf lt a xs)
+  unfolding find leastOf
+  find-least a [] = rw (least-alone a)
+  find-least a (x ∷ xs) = go (find-least a xs) (find-least x xs) (lt x a) refl
+    where
+      go : find (isLeast lt (a ∷ xs)) (a ∷ xs) ≡ some (leastOf lt a xs) → find (isLeast lt (x ∷ xs)) (x ∷ xs) ≡ some (leastOf lt x xs) → (t : Bool) → lt x a ≡ t
+          → find (isLeast lt (a ∷ x ∷ xs)) (a ∷ x ∷ xs) ≡ some (leastOf lt (cond t x a) xs)
+      go ih jh true e = rw (least-fails a x xs e) (find-same (isLeast lt (a ∷ x ∷ xs)) (isLeast lt (x ∷ xs)) (x ∷ xs) (least-skip a x xs e) ∙ jh)
+      go ih jh false e = pass (isLeast lt (a ∷ x ∷ xs) a) refl
+        where
+          same : (y : A) → isLeast lt (a ∷ x ∷ xs) y ≡ isLeast lt (a ∷ xs) y
+          same = least-pass a x xs e
+
+          pass : (t : Bool) → isLeast lt (a ∷ x ∷ xs) a ≡ t → find (isLeast lt (a ∷ x ∷ xs)) (a ∷ x ∷ xs) ≡ some (leastOf lt a xs)
+          pass true f = let g : isLeast lt (a ∷ xs) a ≡ true = sym (same a) ∙ f in rw f ((rw g at ih))
+          pass false f =
+              let g : isLeast lt (a ∷ xs) a ≡ false = sym (same a) ∙ f in
+              let k : isLeast lt (a ∷ x ∷ xs) x ≡ false = least-not a x xs e f in
+              rw (f, k) (find-same (isLeast lt (a ∷ x ∷ xs)) (isLeast lt (a ∷ xs)) xs same ∙ (rw g at ih))
+
+-- ---- empty or not
+module _ {A : Type 0} where
+  pub in-nonempty : {x : A} {xs : List A} → In x xs → isEmpty xs ≡ false
+  unfolding isEmpty
+  in-nonempty (here e) = refl
+  in-nonempty (there m) = refl
+
+  pub longer-nonempty : (n : ℕ) (xs : List A) → n < length xs → isEmpty xs ≡ false
+  unfolding isEmpty
+  longer-nonempty n [] h = absurd (omega arith)
+  longer-nonempty n (x ∷ xs) h = refl
+
+-- ---- one thing again and again
+module _ {A : Type 0} where
+  -- also past the end
+  pub getD-same : (n i : ℕ) (d : A) → getD (replicate n d) i d ≡ d
+  getD-same zero zero d = refl
+  getD-same zero (suc i) d = refl
+  getD-same (suc n) zero d = refl
+  getD-same (suc n) (suc i) d = getD-same n i d
+
+  pub in-replicate : (n : ℕ) (d x : A) → In x (replicate n d) → x ≡ d
+  in-replicate zero d x m = absurd (not-nil m)
+  in-replicate (suc n) d x (here e) = e
+  in-replicate (suc n) d x (there m) = in-replicate n d x m
+
+  pub join-empties : (n : ℕ) → _≡_ {A = List A} (join (replicate n [])) []
+  unfolding join
+  join-empties zero = refl
+  join-empties (suc n) = join-empties n
+
+  -- a list with one place set: that place, or as it was
+  pub getD-set : (xs : List A) (j i : ℕ) (v d : A) → i < length xs → getD (set xs j v) i d ≡ cond (eqb j i) v (getD xs i d)
+  getD-set xs j i v d h = go (eqb j i) refl
+    where
+      go : (t : Bool) → eqb j i ≡ t → getD (set xs j v) i d ≡ cond t v (getD xs i d)
+      go true e = let q : j ≡ i = eqb-true j i e in rw q (getD-set-same xs i v d h)
+      go false e = getD-set-other xs j i v d (λ q. eqb-false j i e (sym q))
+
+  pub map-same : (xs : List A) → map (λ x. x) xs ≡ xs
+  map-same [] = refl
+  map-same (x ∷ xs) = ap (λ (r : List A). x ∷ r) (map-same xs)
+
+  -- two lists of one length, each before another list: they can be told apart
+  pub append-apart : (a b x y : List A) → length a ≡ length b → a ++ x ≡ b ++ y → (a ≡ b) × (x ≡ y)
+  append-apart [] [] x y h e = (refl, e)
+  append-apart [] (b ∷ bs) x y h e = absurd (omega arith)
+  append-apart (a ∷ as′) [] x y h e = absurd (omega arith)
+  append-apart (a ∷ as′) (b ∷ bs) x y h e =
+      let q : a ≡ b = cc in
+      let r = append-apart as′ bs x y (omega arith) (cc) in
+      let t : as′ ≡ bs = r .0 in
+      (cc, r .1)
+
+-- ---- lengths of joins
+pub joined-most : {A B : Type 0} (w : A → List B) (c : ℕ) (xs : List A) → ((x : A) → In x xs → length (w x) ≤ c) → length (join (map w xs)) ≤ length xs * c
+unfolding join
+joined-most w c [] h = omega arith
+joined-most w c (x ∷ xs) h = let a = h x (here refl) in let b = joined-most w c xs (λ y m. h y (there m)) in omega (arith, length-append (w x) (join (map w xs)))
+
+-- the lists from k on, n of them, hold no more items than there are
+pub stretch-few : {A : Type 0} (xss : List (List A)) (k n : ℕ) → sum (map (λ l. length (getD xss l [])) (upFrom k n)) ≤ length (join (drop k xss))
+unfolding sum upFrom join
+stretch-few xss k zero = omega arith
+stretch-few xss k (suc n) = go (ltb k (length xss)) refl (stretch-few xss (suc k) n)
+  where
+    rest : ℕ
+    rest = sum (map (λ l. length (getD xss l [])) (upFrom (suc k) n))
+
+    go : (t : Bool) → ltb k (length xss) ≡ t → rest ≤ length (join (drop (suc k) xss)) → length (getD xss k []) + rest ≤ length (join (drop k xss))
+    go true e ih =
+        let q : drop k xss ≡ getD xss k [] ∷ drop (suc k) xss = drop-cons xss k [] (ltb-true k (length xss) e) in
+        rw q (omega (arith, length-append (getD xss k []) (join (drop (suc k) xss))))
+    go false e ih =
+        let a : getD xss k [] ≡ [] = List·getD-eq-default xss [] (ltb-false k (length xss) e) in
+        let b : drop (suc k) xss ≡ [] = drop-of-length-le xss {i = suc k} (omega (arith, ltb-false k (length xss) e)) in
+        let z : rest ≤ 0 = rw b at ih in
+        rw a (omega arith)
+
+-- ---- two tests that both fail
+pub neither : (a b : Bool) → a ≡ false → b ≡ false → (not a && not b) ≡ true
+neither a b e f = rw (e, f)
+
+-- the first fails
+pub neither-left : (a b : Bool) → (not a && not b) ≡ true → a ≡ false
+neither-left a b h = not-true a (and-left (not a) (not b) h)
+
+-- the second fails
+pub neither-right : (a b : Bool) → (not a && not b) ≡ true → b ≡ false
+neither-right a b h = not-true b (and-right (not a) (not b) h)

@@ -6,6 +6,7 @@ use mathlib.Core.Option.{Option, none, some}
 use lib.Dec.{eqb}
 
 module _ {A : Type 0} where
+  -- put in front, or not
   unfoldable pub push : Bool → A → List A → List A
   push true x xs = x ∷ xs
   push false x xs = xs
@@ -52,13 +53,16 @@ module _ {A : Type 0} where
   isEmpty [] = true
   isEmpty (x ∷ xs) = false
 
+-- the number stands in the list
 unfoldable pub member : ℕ → List ℕ → Bool
 member n ns = any (λ m. eqb m n) ns
 
+-- no number twice
 unfoldable pub distinct : List ℕ → Bool
 distinct [] = true
 distinct (n ∷ ns) = not (member n ns) && distinct ns
 
+-- the sum of a list
 unfoldable pub sum : List ℕ → ℕ
 sum [] = 0
 sum (n ∷ ns) = n + sum ns

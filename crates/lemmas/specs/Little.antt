@@ -1,15 +1,25 @@
 -- Little-endian numbers: their value and their bytes. Assumes nothing.
-use Prim.Native.Nat.{ℕ, zero, suc, _+_, _*_, _/_, _%_, _^_, _<_}
-use mathlib.Core.Path.{_≡_, refl, ap}
+use Prim.Native.Nat.{ℕ, zero, suc, _+_, _-_, _*_, _/_, _%_, _^_, _≤_, _<_}
+use mathlib.Core.Path.{_≡_, refl, sym, ap, _∙_}
+use mathlib.Core.Bool.{true}
 use mathlib.Core.List.{List, [], _∷_, _++_}
 use native.Mathlib.Omega.{arith}
-use lib.ListN.{length}
+use native.Mathlib.Numerals.{add-one}
+use native.Mathlib.Nat.{zero-add, suc-add, pow-succ', pow-le-pow-right, mul-assoc, div-div-eq-div-mul, div-one}
+use lib.Dec.{ltb}
+use lib.ListN.{length, getD, set, take, drop, take-append-drop}
+use lib.Pow.{areBytes}
+use lib.Seq.{slice, length-take-le, take-suc}
+use borrow.Author.Tests.{lt-ltb, ltb-true}
+use Rattle.lemmas.specs.ListLaws.{and-left, and-right, both}
+use Rattle.lemmas.specs.Slices.{put, put-cons, put-nil, rest-cons, run-cons, run-end, drop-next}
 
 -- a little-endian number: its value, and its bytes at a width
 unfoldable pub number : List ℕ → ℕ
 number [] = 0
 number (b ∷ bs) = b + 256 * number bs
 
+-- its bytes at a width
 unfoldable pub bytes : ℕ → ℕ → List ℕ
 bytes zero n = []
 bytes (suc w) n = n % 256 ∷ bytes w (n / 256)
@@ -20,6 +30,7 @@ unfolding bytes
 bytes-length zero a = refl
 bytes-length (suc n) a = ap suc (bytes-length n (a / 256))
 
+-- its value again
 pub bytes-number : (n a : ℕ) → a < 256 ^ n → number (bytes n a) ≡ a
 unfolding bytes number
 bytes-number zero a h = omega arith
@@ -35,3 +46,130 @@ bytes-apart (suc n) a b h k x y e =
     let r = bytes-apart n (a / 256) (b / 256) (omega arith) (omega arith) x y t in
     let d : a / 256 ≡ b / 256 = r .0 in
     (omega arith, r .1)
+
+-- ---- bytes and powers
+
+-- what is written is bytes
+pub bytes-are : (w n : ℕ) → areBytes (bytes w n) ≡ true
+unfolding bytes
+bytes-are zero n = refl
+bytes-are (suc w) n = both (ltb (n % 256) 256) (areBytes (bytes w (n / 256))) (lt-ltb (n % 256) 256 (omega arith)) (bytes-are w (n / 256))
+
+-- one more byte's room
+pub number-grow : (r b n : ℕ) → r < 256 ^ n → b < 256 → b + 256 * r < 256 ^ (n + 1)
+number-grow r b n h k = rw (add-one n) (omega arith)
+
+-- eight bytes and fewer fit 64 bits
+pub number-fits : (x n : ℕ) → n ≤ 8 → x < 256 ^ n → x < 2 ^ 64
+number-fits x n h k =
+    let p : 256 ^ n ≤ 256 ^ 8 = pow-le-pow-right (omega arith) h in
+    omega arith
+
+-- a number of bytes is below the power of its width
+pub number-bound : (l : List ℕ) → areBytes l ≡ true → number l < 256 ^ length l
+unfolding number
+number-bound [] h = omega arith
+number-bound (b ∷ l) h =
+    let k : b < 256 = ltb-true b 256 (and-left (ltb b 256) (areBytes l) h) in
+    let ih = number-bound l (and-right (ltb b 256) (areBytes l) h) in
+    omega (arith, pow-succ' 256 (length l))
+
+-- the bytes of the number that bytes make
+pub number-bytes : (l : List ℕ) → areBytes l ≡ true → bytes (length l) (number l) ≡ l
+unfolding number bytes
+number-bytes [] h = refl
+number-bytes (b ∷ l) h =
+    let k : b < 256 = ltb-true b 256 (and-left (ltb b 256) (areBytes l) h) in
+    let low : (b + 256 * number l) % 256 ≡ b = omega arith in
+    let high : (b + 256 * number l) / 256 ≡ number l = omega arith in
+    rw (low, high, number-bytes l (and-right (ltb b 256) (areBytes l) h))
+
+-- two numbers of bytes one after the other
+pub number-append : (a b : List ℕ) → number (a ++ b) ≡ number a + 256 ^ length a * number b
+unfolding number
+number-append [] b = omega arith
+number-append (x ∷ a) b =
+    let e : 256 ^ suc (length a) * number b ≡ 256 * (256 ^ length a * number b) =
+    ap (λ (n : ℕ). n * number b) (pow-succ' 256 (length a)) ∙ mul-assoc 256 (256 ^ length a) (number b) in
+    omega (arith, number-append a b)
+
+-- a number by its lower and its upper bytes
+pub number-split : (n : ℕ) (l : List ℕ) → n ≤ length l → number l ≡ number (take n l) + 256 ^ n * number (drop n l)
+number-split n l h =
+    ap number (sym (take-append-drop n l)) ∙ number-append (take n l) (drop n l)
+    ∙ ap (λ (k : ℕ). number (take n l) + 256 ^ k * number (drop n l)) (length-take-le n l h)
+
+-- ---- reading, from the top down: what is read so far, and one byte more below it
+
+-- the bytes from j on
+pub number-drop : (l : List ℕ) (j : ℕ) → j < length l → number (drop j l) ≡ getD l j 0 + 256 * number (drop (j + 1) l)
+unfolding number
+number-drop l j h = rw (rest-cons l j 0 h)
+
+-- the same for a place that counts down
+pub number-back : (l : List ℕ) (j : ℕ) → 0 < j → j ≤ length l → number (drop (j - 1) l) ≡ getD l (j - 1) 0 + 256 * number (drop j l)
+unfolding number
+number-back l j h k = rw (drop-next l (j - 1) j 0 (omega arith) (omega arith))
+
+-- the bytes of a run
+pub number-run : (i e : ℕ) (l : List ℕ) → i < e → e ≤ length l → number (slice i e l) ≡ getD l i 0 + 256 * number (slice (i + 1) e l)
+unfolding number
+number-run i e l h k = rw (run-cons i e l 0 h k)
+
+-- the same for a place that counts down
+pub number-run-back : (i e : ℕ) (l : List ℕ) → 0 < i → i ≤ e → e ≤ length l → number (slice (i - 1) e l) ≡ getD l (i - 1) 0 + 256 * number (slice i e l)
+number-run-back i e l h g k =
+    let n : i - 1 + 1 ≡ i = omega arith in
+    number-run (i - 1) e l (omega arith) k ∙ ap (λ (j : ℕ). getD l (i - 1) 0 + 256 * number (slice j e l)) n
+
+-- no byte
+pub number-end : (i e : ℕ) (l : List ℕ) → i ≤ e → e ≤ i → number (slice i e l) ≡ 0
+unfolding number
+number-end i e l h k = rw (run-end i e l h k)
+
+-- from the bottom up
+pub number-next : (l : List ℕ) (i : ℕ) → i < length l → number (take (i + 1) l) ≡ number (take i l) + 256 ^ i * getD l i 0
+unfolding number
+number-next l i h =
+    let one : number (getD l i 0 ∷ []) ≡ getD l i 0 = omega arith in
+    rw (add-one i, take-suc l i 0 h)
+    (number-append (take i l) (getD l i 0 ∷ [])
+    ∙ ap (λ (b : ℕ). number (take i l) + 256 ^ length (take i l) * b) one
+    ∙ ap (λ (k : ℕ). number (take i l) + 256 ^ k * getD l i 0) (length-take-le i l (omega arith)))
+
+-- ---- writing: byte j of k laid down at place at + j, the rest of the number after it
+
+-- a turn
+pub bytes-turn : (out : List ℕ) (at k j y : ℕ) → j < k → at + j < length out
+    → put (set out (at + j) (y % 256)) (at + (j + 1)) (bytes (k - (j + 1)) (y / 256)) ≡ put out (at + j) (bytes (k - j) y)
+unfolding bytes
+bytes-turn out at k j y h g =
+    let p : at + (j + 1) ≡ at + j + 1 = omega arith in
+    let q : k - j ≡ suc (k - (j + 1)) = omega arith in
+    rw (p, q) (put-cons out (at + j) (y % 256) (bytes (k - (j + 1)) (y / 256)) g)
+
+-- all bytes are written
+pub bytes-end : (out : List ℕ) (at k j y : ℕ) → k ≤ j → put out (at + j) (bytes (k - j) y) ≡ out
+unfolding bytes
+bytes-end out at k j y h =
+    let q : k - j ≡ 0 = omega arith in
+    rw q (put-nil out (at + j))
+
+-- byte j of a number
+pub byte-at : (w n j : ℕ) → j < w → getD (bytes w n) j 0 ≡ n / 256 ^ j % 256
+unfolding bytes
+byte-at zero n j h = absurd (omega arith)
+byte-at (suc w) n zero h = ap (λ (k : ℕ). k % 256) (sym (div-one n))
+byte-at (suc w) n (suc j) h =
+    byte-at w (n / 256) j (omega arith)
+    ∙ ap (λ (k : ℕ). k % 256) (div-div-eq-div-mul n 256 (256 ^ j) ∙ ap (λ (k : ℕ). n / k) (sym (pow-succ' 256 j)))
+
+-- the bytes of a number at a width, as those of two widths
+pub bytes-append : (w v n : ℕ) → bytes (w + v) n ≡ bytes w n ++ bytes v (n / 256 ^ w)
+unfolding bytes
+bytes-append zero v n = rw (zero-add v) (ap (bytes v) (sym (div-one n)))
+bytes-append (suc w) v n =
+    rw (suc-add w v)
+    (ap (λ (r : List ℕ). n % 256 ∷ r)
+    (bytes-append w v (n / 256)
+    ∙ ap (λ (k : ℕ). bytes w (n / 256) ++ bytes v k) (div-div-eq-div-mul n 256 (256 ^ w) ∙ ap (λ (k : ℕ). n / k) (sym (pow-succ' 256 w)))))

@@ -1,7 +1,8 @@
 -- Answers by number: what a call gives, or the number of the first refusal that applies. Assumes nothing.
 use Prim.Native.Nat.{ℕ}
 use mathlib.Core.Bool.{Bool, cond}
-use mathlib.Core.List.{List, [], _∷_}
+use mathlib.Core.List.{List, [], _∷_, _++_}
+use lib.ListN.{length, drop}
 
 -- an answer of a call: what it gives, or the number of its refusal
 pub data Answer (A : Type 0) : Type 0 where
@@ -14,6 +15,7 @@ pub record Refusal : Type 0 where
   pub code : ℕ
 
 infixr 20 _⇒_
+-- if the test applies, this number
 unfoldable pub _⇒_ : Bool → ℕ → Refusal
 b ⇒ n = record { applies = b; code = n }
 
@@ -22,3 +24,16 @@ module _ {A : Type 0} where
   unfoldable pub firstOf : List Refusal → A → Answer A
   firstOf [] a = gives a
   firstOf (r ∷ rs) a = cond (r .applies) (refused (r .code)) (firstOf rs a)
+
+-- an answer in another form; a refusal stays as it is
+module _ {A B : Type 0} where
+  unfoldable pub onAnswer : (A → B) → Answer A → Answer B
+  onAnswer f (gives a) = gives (f a)
+  onAnswer f (refused n) = refused n
+
+-- lent output
+module _ {A : Type 0} where
+  -- what a call leaves in the lent output: its answer, then what lay past it; on a refusal the old contents
+  unfoldable pub lent : Answer (List A) → List A → List A
+  lent (gives xs) out = xs ++ drop (length xs) out
+  lent (refused n) out = out

@@ -1,34 +1,28 @@
 -- A level's files by rising number: the list is determined by its members. Assumes nothing.
-use Prim.Native.Nat.{ℕ, zero, suc, _+_, _≤_, _<_}
-use mathlib.Core.Path.{_≡_, refl, sym, _∙_, ap, subst}
-use mathlib.Core.Logic.{_⊎_, inl, inr, _↔_}
-use mathlib.Core.Bool.{Bool, true, false, not, _&&_, _||_, cond}
-use mathlib.Core.List.{List, [], _∷_, map, List·Memᴰ as In, List·Memᴰ·head as here, List·Memᴰ·tail as there, List·Memᴰ·not-nil as not-nil}
-use native.Mathlib.Omega.{arith}
+use Prim.Native.Nat.{ℕ, _≤_}
+use mathlib.Core.Path.{_≡_, refl, ap, sym, _∙_, subst}
+use mathlib.Core.Logic.{_↔_}
+use mathlib.Core.Bool.{Bool, true, false, not, _||_}
+use mathlib.Core.List.{List, [], _∷_, List·Memᴰ as In, List·Memᴰ·head as here, List·Memᴰ·tail as there, List·Memᴰ·not-nil as not-nil}
+use borrow.Author.Tests.{eq-eqb, ltb-false, not-true}
 use lib.Dec.{eqb, ltb}
-use borrow.Author.Tests.{ltb-false, eq-eqb, not-true}
+use native.Mathlib.Omega.{arith}
 use Rattle.lemmas.specs.Order.{StrictWeak, clash, nat-order, on-order}
-use Rattle.lemmas.specs.Lists.{sort, chain, any, member, distinct}
-use Rattle.lemmas.specs.ListLaws.{and-left, and-right, sort-in, sort-chain, sort-tally, tally, tally-map, distinct-tally, distinct-of-tally}
+use Rattle.lemmas.specs.Lists.{any, sort, chain, member, distinct}
+use Rattle.lemmas.specs.ListLaws.{and-left, and-right, tally, sort-in, sort-tally, sort-chain, tally-map, distinct-tally, distinct-of-tally, chain-rest}
 use Rattle.model.specs.File.{File, numbers}
 use Rattle.model.specs.Snapshot.{byNumber}
 
+-- files by number: an order
 byNumber-order : StrictWeak byNumber
 unfolding byNumber
 byNumber-order = on-order ltb (λ (f : File). f .number) nat-order
 
+-- by rising number
 abbrev rising : List File → Bool
 rising fs = chain (λ f g. not (byNumber g f)) fs
 
-rising-least : (x y : File) (xs : List File) → rising (x ∷ xs) ≡ true → In y (x ∷ xs) → x .number ≤ y .number
-unfolding chain byNumber
-rising-least x y xs c (here e) = omega (arith, ap (λ (f : File). f .number) e)
-rising-least x y [] c (there m) = absurd (not-nil m)
-rising-least x y (z ∷ zs) c (there m) =
-    let a = ltb-false (z .number) (x .number) (not-true (ltb (z .number) (x .number)) (and-left (not (ltb (z .number) (x .number))) (rising (z ∷ zs)) c)) in
-    let b = rising-least z y zs (and-right (not (ltb (z .number) (x .number))) (rising (z ∷ zs)) c) m in
-    omega arith
-
+-- a file of the list has its number among the list's
 member-in : (xs : List File) (b : File) → In b xs → member (b .number) (numbers xs) ≡ true
 unfolding member any numbers
 member-in (x ∷ xs) b (here e) = let q : eqb (x .number) (b .number) ≡ true = eq-eqb (x .number) (b .number) (ap (λ (f : File). f .number) (sym e)) in rw q
@@ -38,12 +32,14 @@ member-in (x ∷ xs) b (there m) = go (member-in xs b m) (eqb (x .number) (b .nu
     go h true = refl
     go h false = h
 
+-- where no number stands twice, the first number does not come again
 pub not-again : (x b : File) (xs : List File) → distinct (numbers (x ∷ xs)) ≡ true → In b xs → x .number ≡ b .number → ⊥
 unfolding distinct numbers
 not-again x b xs d m e =
     let n : member (x .number) (numbers xs) ≡ false = not-true (member (x .number) (numbers xs)) (and-left (not (member (x .number) (numbers xs))) (distinct (numbers xs)) d) in
     clash (rw e (member-in xs b m)) n
 
+-- where no number stands twice, a number has one file
 pub one-number : (xs : List File) → distinct (numbers xs) ≡ true → (a b : File) → In a xs → In b xs → a .number ≡ b .number → a ≡ b
 unfolding distinct numbers
 one-number (x ∷ xs) d a b (here e) (here e′) q = e ∙ sym e′
@@ -51,29 +47,43 @@ one-number (x ∷ xs) d a b (here e) (there m) q = absurd (not-again x b xs d m 
 one-number (x ∷ xs) d a b (there m) (here e) q = absurd (not-again x a xs d m (ap (λ (f : File). f .number) (sym e) ∙ sym q))
 one-number (x ∷ xs) d a b (there m) (there m′) q = one-number xs (and-right (not (member (x .number) (numbers xs))) (distinct (numbers xs)) d) a b m m′ q
 
+-- ---- sorted lists of files with the same members, no number twice and no ties, are one
+module _ (lt : File → File → Bool) (o : StrictWeak lt) where
+  abbrev sorted : List File → Bool
+  sorted fs = chain (λ f g. not (lt g f)) fs
+
+  sorted-least : (x y : File) (xs : List File) → sorted (x ∷ xs) ≡ true → In y (x ∷ xs) → lt y x ≡ false
+  unfolding chain
+  sorted-least x y xs c (here e) = subst (λ (z : File). lt z x ≡ false) (sym e) (o .irrefl x)
+  sorted-least x y [] c (there m) = absurd (not-nil m)
+  sorted-least x y (z ∷ zs) c (there m) =
+      o .ntrans y z x (sorted-least z y zs (and-right (not (lt z x)) (sorted (z ∷ zs)) c) m) (not-true (lt z x) (and-left (not (lt z x)) (sorted (z ∷ zs)) c))
+
+  pub sorted-one : (xs ys : List File) → sorted xs ≡ true → sorted ys ≡ true → distinct (numbers xs) ≡ true → distinct (numbers ys) ≡ true
+      → ((f : File) → In f xs → In f ys) → ((f : File) → In f ys → In f xs) → ((f g : File) → In f xs → In g xs → lt f g ≡ false → lt g f ≡ false → f ≡ g) → xs ≡ ys
+  unfolding distinct numbers
+  sorted-one [] [] c d p q s t ties = refl
+  sorted-one [] (y ∷ ys) c d p q s t ties = absurd (not-nil (t y (here refl)))
+  sorted-one (x ∷ xs) [] c d p q s t ties = absurd (not-nil (s x (here refl)))
+  sorted-one (x ∷ xs) (y ∷ ys) c d p q s t ties =
+      let e : x ≡ y = ties x y (here refl) (t y (here refl)) (sorted-least y x ys d (s x (here refl))) (sorted-least x y xs c (t y (here refl))) in
+      let rest = sorted-one xs ys (chain-rest (λ f g. not (lt g f)) x xs c) (chain-rest (λ f g. not (lt g f)) y ys d)
+      (and-right (not (member (x .number) (numbers xs))) (distinct (numbers xs)) p) (and-right (not (member (y .number) (numbers ys))) (distinct (numbers ys)) q)
+      (λ f m. over x y xs ys e p f m (s f (there m))) (λ f m. over y x ys xs (sym e) q f m (t f (there m))) (λ f g m n. ties f g (there m) (there n)) in
+      cc
+    where
+      over : (u v : File) (us vs : List File) → u ≡ v → distinct (numbers (u ∷ us)) ≡ true → (f : File) → In f us → In f (v ∷ vs) → In f vs
+      over u v us vs e h f m (here i) = absurd (not-again u f us h m (ap (λ (g : File). g .number) (e ∙ sym i)))
+      over u v us vs e h f m (there k) = k
+
+-- rising lists with the same members are one
 rising-one : (xs ys : List File) → rising xs ≡ true → rising ys ≡ true → distinct (numbers xs) ≡ true → distinct (numbers ys) ≡ true
     → ((f : File) → In f xs → In f ys) → ((f : File) → In f ys → In f xs) → xs ≡ ys
-unfolding distinct numbers chain
-rising-one [] [] c d p q s t = refl
-rising-one [] (y ∷ ys) c d p q s t = absurd (not-nil (t y (here refl)))
-rising-one (x ∷ xs) [] c d p q s t = absurd (not-nil (s x (here refl)))
-rising-one (x ∷ xs) (y ∷ ys) c d p q s t =
-    let a = rising-least x y xs c (t y (here refl)) in
-    let b = rising-least y x ys d (s x (here refl)) in
-    let e : x ≡ y = one-number (x ∷ xs) p x y (here refl) (t y (here refl)) (omega arith) in
-    let tail = rising-one xs ys (rest x xs c) (rest y ys d)
-    (and-right (not (member (x .number) (numbers xs))) (distinct (numbers xs)) p) (and-right (not (member (y .number) (numbers ys))) (distinct (numbers ys)) q)
-    (λ f m. over x y xs ys e p f m (s f (there m))) (λ f m. over y x ys xs (sym e) q f m (t f (there m))) in
-    cc
-  where
-    rest : (z : File) (zs : List File) → rising (z ∷ zs) ≡ true → rising zs ≡ true
-    rest z [] h = refl
-    rest z (w ∷ ws) h = and-right (not (byNumber w z)) (rising (w ∷ ws)) h
+unfolding byNumber
+rising-one xs ys c d p q s t = sorted-one byNumber byNumber-order xs ys c d p q s t
+    (λ f g m n a b. one-number xs p f g m n (omega (arith, ltb-false (f .number) (g .number) a, ltb-false (g .number) (f .number) b)))
 
-    over : (u v : File) (us vs : List File) → u ≡ v → distinct (numbers (u ∷ us)) ≡ true → (f : File) → In f us → In f (v ∷ vs) → In f vs
-    over u v us vs e h f m (here i) = absurd (not-again u f us h m (ap (λ (g : File). g .number) (e ∙ sym i)))
-    over u v us vs e h f m (there k) = k
-
+-- sorting repeats no number
 pub sort-distinct : (lt : File → File → Bool) (fs : List File) → distinct (numbers fs) ≡ true → distinct (numbers (sort lt fs)) ≡ true
 unfolding numbers
 sort-distinct lt fs d = distinct-of-tally (numbers (sort lt fs)) (λ n. bound n)

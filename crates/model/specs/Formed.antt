@@ -1,25 +1,28 @@
--- What well-formed says, and that every accepted call keeps it. Assumes nothing.
-use Prim.Native.Nat.{ℕ, zero, suc, _+_, _*_, _-_, _^_, _≤_, _<_}
-use mathlib.Core.Path.{_≡_, refl, sym, _∙_, ap, subst}
-use mathlib.Core.Logic.{_⊎_, inl, inr, _↔_}
-use mathlib.Core.Bool.{Bool, true, false, not, _&&_, _||_, cond}
-use mathlib.Core.List.{List, [], _∷_, _++_, map, List·Memᴰ as In, List·Memᴰ·head as here, List·Memᴰ·tail as there, List·Memᴰ·not-nil as not-nil, List·Memᴰ·append-cases as append-cases, Memᴰ·append-left as in-left, Memᴰ·append-right as in-right, Memᴰ·of-map as of-map}
+-- What well-formed says, and that an accepted edit and an accepted counter call keep it. Assumes nothing.
+use Prim.Native.Nat.{ℕ, zero, suc, _^_, _<_, _≤_}
+use mathlib.Core.Path.{_≡_, refl, ap, sym, _∙_, subst}
+use mathlib.Core.Logic.{_↔_, _⊎_, inl, inr}
+use mathlib.Core.Bool.{Bool, cond, true, false, not, _&&_, _||_}
+use mathlib.Core.List.{List, [], _∷_, _++_, List·Memᴰ as In, List·Memᴰ·head as here, List·Memᴰ·tail as there, List·Memᴰ·not-nil as not-nil, List·Memᴰ·append-cases as append-cases, Memᴰ·append-left as in-left, Memᴰ·append-right as in-right, Memᴰ·of-map as of-map, append-nil}
 use mathlib.Core.Option.{Option, none, some}
-use native.Mathlib.Omega.{arith}
+use borrow.Author.Tests.{eqb-true, eq-eqb, ltb-true, ltb-false, lt-ltb, leb-true, leb-false, le-leb, not-true}
 use lib.Dec.{eqb, ltb, leb}
-use lib.ListN.{length, getD, set, replicate, length-replicate, length-set}
-use borrow.Author.Tests.{eqb-true, eq-eqb, ltb-true, ltb-false, lt-ltb, leb-true, leb-false, le-leb, not-true, not-false}
-use Rattle.lemmas.specs.Order.{clash, StrictWeak, on-order}
-use Rattle.model.specs.Key.{Key, before, before-order, goodKey}
-use Rattle.lemmas.specs.Lists.{keep, any, all, sort, join, isEmpty, distinct}
-use Rattle.model.specs.Answer.{Answer, gives, refused, Refusal, _⇒_}
-use Rattle.lemmas.specs.ListLaws.{and-left, and-right, both, keep-in, sort-in, sort-chain, all-in, join-in, set-in}
-use Rattle.model.specs.File.{Profile, File, State, Counters, level, pointer, numbers, bySmallest, goodFile, goodFiles, goodPointer, goodCounters, inOrder, noCollision, levelwise, wellFormed, maxCounter, maxSize, setPointer, setCounters, fresh}
-use Rattle.model.specs.Edit.{Edit, Pointer, Addition, Deletion, leftDeleted, added, survivors, survivorsFrom, applied, pointed, logged, edit, badLog, entryRefusals, pointerRefusals, deletionRefusals, additionRefusals}
-use Rattle.model.specs.Rest.{CounterCall, new, reuse, mark, last, manifest, previous, counted, counterBeyond, counter}
+use lib.ListN.{length, getD, set}
+use native.Mathlib.Omega.{arith}
+use Rattle.lemmas.specs.Order.{clash, asym, le-lt}
+use Rattle.lemmas.specs.Lists.{keep, any, all, sort, chain, join, distinct}
+use Rattle.lemmas.specs.ListLaws.{and-left, and-right, both, keep-in, all-in, set-in, distinct-append, or-right, chain-rest, sort-sorted, keep-all}
+use Rattle.lemmas.specs.Distinct.{same-test}
+use Rattle.model.specs.Key.{Key, goodKey, before, before-order}
+use Rattle.model.specs.Answer.{gives}
+use Rattle.model.specs.File.{Profile, File, Counters, State, numbers, bySmallest, maxCounter, maxSize, goodFile, apart, inOrder, noCollision, levelwise, goodPointer, goodCounters, goodFiles, wellFormed, setCounters}
+use Rattle.model.specs.Edit.{Addition, Pointer, Edit, emptyEdit, added, deletes, leftDeleted, survivors, survivorsFrom, pointed, logged, applied, tooMany, badLog, edit}
+use Rattle.model.specs.Counters.{CounterCall, new, reuse, mark, last, manifest, previous, counted, counterBeyond, counter}
 use Rattle.model.specs.Snapshot.{fiveOf}
-use Rattle.model.specs.HistoryLaws.{Accepted, edit-accepted, survivors-in, survivorsFrom-length, Counted, count-accepted}
+use Rattle.model.specs.EditLaws.{bySmallest-order, survivors-in, survivors-ordered, survivorsFrom-length, pointed-length, PointerFits, AdditionFits, edit-accepted, edit-accepts}
+use Rattle.model.specs.CounterLaws.{count-accepted}
 
+-- well-formed, part by part
 pub record WF (p : Profile) (s : State) : Type 0 where
   pub levels : length (s .files) ≡ p .levels
   pub good : (f : File) → In f (join (s .files)) → goodFile p f ≡ true
@@ -31,9 +34,11 @@ pub record WF (p : Profile) (s : State) : Type 0 where
   pub pointers : (o : Option Key) → In o (s .pointers) → goodPointer p o ≡ true
   pub counters : (n : ℕ) → In n (fiveOf (s .counters)) → n ≤ maxCounter
 
+-- a good file whose number is a 64-bit word
 abbrev goodWord : Profile → File → Bool
 goodWord p f = goodFile p f && ltb (f .number) (2 ^ 64)
 
+-- the test says just that
 pub formed-says : (p : Profile) (s : State) → wellFormed p s ≡ true ↔ WF p s
 unfolding wellFormed goodFiles goodCounters fiveOf
 formed-says p s =
@@ -84,6 +89,75 @@ formed-says p s =
           (all-in (λ n. leb n maxCounter) (fiveOf (s .counters)) .1 (λ n m. le-leb n maxCounter (w .counters n m))),
     )
 
+-- a good file, part by part
+pub record GoodFile (p : Profile) (f : File) : Type 0 where
+  pub smallest : goodKey (p .longest) (f .smallest) ≡ true
+  pub largest : goodKey (p .longest) (f .largest) ≡ true
+  pub order : before (f .largest) (f .smallest) ≡ false
+  pub size : f .size ≤ maxSize
+
+-- the test says just that
+pub goodFile-says : (p : Profile) (f : File) → goodFile p f ≡ true ↔ GoodFile p f
+unfolding goodFile
+goodFile-says p f =
+    let a = goodKey (p .longest) (f .smallest) in
+    let b = goodKey (p .longest) (f .largest) in
+    let o = before (f .largest) (f .smallest) in
+    let z = leb (f .size) maxSize in (
+      λ h.
+          let abo = and-left (a && b && not o) z h in
+          let ab = and-left (a && b) (not o) abo in
+          record { smallest = and-left a b ab; largest = and-right a b ab; order = not-true o (and-right (a && b) (not o) abo); size = leb-true (f .size) maxSize (and-right (a && b && not o) z h) },
+      λ g. both (a && b && not o) z (both (a && b) (not o) (both a b (g .smallest) (g .largest)) (rw (g .order))) (le-leb (f .size) maxSize (g .size)),
+    )
+
+-- a good file's largest key is not before its smallest
+pub goodFile-order : (p : Profile) (f : File) → goodFile p f ≡ true → before (f .largest) (f .smallest) ≡ false
+goodFile-order p f h = goodFile-says p f .0 h .order
+
+-- numbers of two lists joined
+pub numbers-append : (xs ys : List File) → numbers (xs ++ ys) ≡ numbers xs ++ numbers ys
+unfolding numbers
+numbers-append [] ys = refl
+numbers-append (x ∷ xs) ys = ap (λ (r : List ℕ). x .number ∷ r) (numbers-append xs ys)
+
+-- no number twice over all levels: none twice at one
+pub distinct-level : (fss : List (List File)) (i : ℕ) → distinct (numbers (join fss)) ≡ true → distinct (numbers (getD fss i [])) ≡ true
+unfolding join distinct numbers
+distinct-level [] zero h = refl
+distinct-level [] (suc i) h = refl
+distinct-level (fs ∷ fss) zero h = distinct-append (numbers fs) (numbers (join fss)) (rw numbers-append at h) .0
+distinct-level (fs ∷ fss) (suc i) h = distinct-level fss i (distinct-append (numbers fs) (numbers (join fss)) (rw numbers-append at h) .1)
+
+-- ---- files that stand apart: each ends strictly before the next begins
+-- its first file begins before every later one
+apart-first : (x y : File) (xs : List File) → ((f : File) → In f (x ∷ xs) → before (f .largest) (f .smallest) ≡ false) → apart (x ∷ xs) ≡ true → In y xs → bySmallest x y ≡ true
+unfolding chain bySmallest
+apart-first x y [] g c m = absurd (not-nil m)
+apart-first x y (z ∷ zs) g c m =
+    let step : before (x .smallest) (z .smallest) ≡ true = le-lt before before-order (x .smallest) (x .largest) (z .smallest) (g x (here refl)) (and-left (before (x .largest) (z .smallest)) (apart (z ∷ zs)) c) in
+    go step (apart-first z y zs (λ f i. g f (there i)) (and-right (before (x .largest) (z .smallest)) (apart (z ∷ zs)) c)) m
+  where
+    go : before (x .smallest) (z .smallest) ≡ true → (In y zs → before (z .smallest) (y .smallest) ≡ true) → In y (z ∷ zs) → before (x .smallest) (y .smallest) ≡ true
+    go step ih (here e) = subst (λ (f : File). before (x .smallest) (f .smallest) ≡ true) (sym e) step
+    go step ih (there k) = before-order .trans (x .smallest) (z .smallest) (y .smallest) step (ih k)
+
+-- they are sorted by smallest key
+pub apart-sorted : (fs : List File) → ((f : File) → In f fs → before (f .largest) (f .smallest) ≡ false) → apart fs ≡ true → chain (λ f g. not (bySmallest g f)) fs ≡ true
+unfolding chain
+apart-sorted [] g c = refl
+apart-sorted (x ∷ []) g c = refl
+apart-sorted (x ∷ z ∷ zs) g c = both (not (bySmallest z x)) (chain (λ f g. not (bySmallest g f)) (z ∷ zs))
+    (rw (asym bySmallest bySmallest-order x z (apart-first x z (z ∷ zs) g c (here refl)))) (apart-sorted (z ∷ zs) (λ f i. g f (there i)) (and-right (before (x .largest) (z .smallest)) (apart (z ∷ zs)) c))
+
+-- and no two of them have smallest keys equal in order
+pub apart-ties : (fs : List File) → ((f : File) → In f fs → before (f .largest) (f .smallest) ≡ false) → apart fs ≡ true
+    → (f g : File) → In f fs → In g fs → bySmallest f g ≡ false → bySmallest g f ≡ false → f ≡ g
+apart-ties (x ∷ xs) w c f g (here e) (here e′) p q = e ∙ sym e′
+apart-ties (x ∷ xs) w c f g (here e) (there m) p q = clash (subst (λ (h : File). bySmallest h g ≡ true) (sym e) (apart-first x g xs w c m)) p
+apart-ties (x ∷ xs) w c f g (there m) (here e) p q = clash (subst (λ (h : File). bySmallest h f ≡ true) (sym e) (apart-first x f xs w c m)) q
+apart-ties (x ∷ xs) w c f g (there m) (there n) p q = apart-ties xs (λ h i. w h (there i)) (chain-rest (λ (f g : File). before (f .largest) (g .smallest)) x xs c) f g m n p q
+
 -- ---- an edit
 -- a survivor was there or was added
 survived : (e : Edit) (k : ℕ) (fss : List (List File)) (f : File) → In f (join (survivorsFrom e k fss)) → In f (join fss) ⊎ ((a : Addition) × In a (e .additions) × (a .file ≡ f))
@@ -111,39 +185,11 @@ survived e k (fs ∷ fss) f m = go (survived e (suc k) fss f) (append-cases (sur
     go ih (inl h) = first (survivors-in e k fs f .0 h)
     go ih (inr h) = deeper (ih h)
 
--- no refusal of the entries applies: each addition is a good file, each pointer has a good key
-additions-listed : (p : Profile) (as′ : List Addition) (a : Addition) → In a as′
-    → In (not (goodKey (p .longest) (a .file .smallest) && goodKey (p .longest) (a .file .largest)) ⇒ 2) (additionRefusals p as′)
-    × In (before (a .file .largest) (a .file .smallest) ⇒ 4) (additionRefusals p as′)
-    × In (ltb maxSize (a .file .size) ⇒ 5) (additionRefusals p as′)
-unfolding additionRefusals
-additions-listed p (b ∷ bs) a (here e) = (
-  there (here (ap (λ (x : Addition). not (goodKey (p .longest) (x .file .smallest) && goodKey (p .longest) (x .file .largest)) ⇒ 2) e)),
-  there (there (here (ap (λ (x : Addition). before (x .file .largest) (x .file .smallest) ⇒ 4) e))),
-  there (there (there (here (ap (λ (x : Addition). ltb maxSize (x .file .size) ⇒ 5) e)))),
-)
-additions-listed p (b ∷ bs) a (there m) = let r = additions-listed p bs a m in
-    (there (there (there (there (r .0)))), there (there (there (there (r .1)))), there (there (there (there (r .2)))))
+-- an addition to which no refusal applies is a good file
+addition-good : (p : Profile) (a : Addition) → AdditionFits p a → goodFile p (a .file) ≡ true
+addition-good p a g = goodFile-says p (a .file) .1 record { smallest = g .smallest; largest = g .largest; order = g .order; size = g .size }
 
-pointers-listed : (p : Profile) (qs : List Pointer) (q : Pointer) → In q qs → In (not (goodKey (p .longest) (q .key)) ⇒ 2) (pointerRefusals p qs)
-unfolding pointerRefusals
-pointers-listed p (r ∷ rs) q (here e) = there (here (ap (λ (x : Pointer). not (goodKey (p .longest) (x .key)) ⇒ 2) e))
-pointers-listed p (r ∷ rs) q (there m) = there (there (pointers-listed p rs q m))
-
-addition-good : (p : Profile) (e : Edit) → ((r : Refusal) → In r (entryRefusals p e) → r .applies ≡ false) → (a : Addition) → In a (e .additions) → goodFile p (a .file) ≡ true
-unfolding entryRefusals goodFile _⇒_
-addition-good p e h a m =
-    let r = additions-listed p (e .additions) a m in
-    let at : (x : Refusal) → In x (additionRefusals p (e .additions)) → x .applies ≡ false = λ x i. h x (in-right (pointerRefusals p (e .pointers) ++ deletionRefusals p (e .deletions)) i) in
-    let k₁ = goodKey (p .longest) (a .file .smallest) in
-    let k₂ = goodKey (p .longest) (a .file .largest) in
-    let o = before (a .file .largest) (a .file .smallest) in
-    let z = leb (a .file .size) maxSize in
-    let keys : (k₁ && k₂) ≡ true = not-false (k₁ && k₂) (at (not (k₁ && k₂) ⇒ 2) (r .0)) in
-    let order : o ≡ false = at (o ⇒ 4) (r .1) in
-    let size = ltb-false maxSize (a .file .size) (at (ltb maxSize (a .file .size) ⇒ 5) (r .2)) in
-    both (k₁ && k₂ && not o) z (both (k₁ && k₂) (not o) keys (rw order)) (le-leb (a .file .size) maxSize size)
-
+-- a pointer after an edit was there or came with the edit
 pointed-in : (qs : List Pointer) (ps : List (Option Key)) (o : Option Key) → In o (pointed qs ps) → In o ps ⊎ ((q : Pointer) × In q qs × (o ≡ some (q .key)))
 unfolding pointed
 pointed-in [] ps o m = inl m
@@ -160,11 +206,6 @@ pointed-in (q ∷ qs) ps o m = go (pointed-in qs (set ps (q .level) (some (q .ke
     go (inl h) = placed (set-in ps (q .level) (some (q .key)) o h)
     go (inr h) = inr (h .0, there (h .1), h .2)
 
-pointed-length : (qs : List Pointer) (ps : List (Option Key)) → length (pointed qs ps) ≡ length ps
-unfolding pointed
-pointed-length [] ps = refl
-pointed-length (q ∷ qs) ps = pointed-length qs (set ps (q .level) (some (q .key))) ∙ length-set ps (q .level) (some (q .key))
-
 -- five numbers, one by one
 five : (a b c d e : ℕ) → ((n : ℕ) → In n (a ∷ b ∷ c ∷ d ∷ e ∷ []) → n ≤ maxCounter) ↔ ((a ≤ maxCounter) × (b ≤ maxCounter) × (c ≤ maxCounter) × (d ≤ maxCounter) × (e ≤ maxCounter))
 five a b c d e = (λ h. (h a (here refl), h b (there (here refl)), h c (there (there (here refl))), h d (there (there (there (here refl)))), h e (there (there (there (there (here refl)))))), λ h n m. go h n m)
@@ -177,6 +218,7 @@ five a b c d e = (λ h. (h a (here refl), h b (there (here refl)), h c (there (t
     go h n (there (there (there (there (here q))))) = rw q (h .4)
     go h n (there (there (there (there (there z))))) = absurd (not-nil z)
 
+-- an accepted log number keeps the counters bounded
 logged-bounded : (c : Counters) (o : Option ℕ) → badLog c o ≡ false → ((n : ℕ) → In n (fiveOf c) → n ≤ maxCounter) → (n : ℕ) → In n (fiveOf (logged o c)) → n ≤ maxCounter
 unfolding logged badLog fiveOf
 logged-bounded c none b h = h
@@ -184,48 +226,42 @@ logged-bounded c (some k) b h =
     let r = five (c .next) (c .manifest) (c .last) (c .log) (c .previous) .0 h in
     five (c .next) (c .manifest) (c .last) k (c .previous) .1 (r .0, r .1, r .2, small, r .4)
   where
-    or-right : (x y : Bool) → (x || y) ≡ false → y ≡ false
-    or-right true y q = clash refl q
-    or-right false y q = q
-
     small : k ≤ maxCounter
     small = ltb-false maxCounter k (or-right (ltb k (c .log) || not (ltb k (c .next))) (ltb maxCounter k) b)
 
 -- survivors that do not collide are in order: level 0 is sorted
-bySmallest-order : StrictWeak bySmallest
-unfolding bySmallest
-bySmallest-order = on-order before (λ (f : File). f .smallest) before-order
-
 level-ordered : (e : Edit) (l : ℕ) (fs : List File) → noCollision l (survivors e l fs) ≡ true → inOrder l (survivors e l fs) ≡ true
-unfolding noCollision inOrder survivors
-level-ordered e zero fs c = sort-chain bySmallest bySmallest-order (keep (λ f. not (leftDeleted e 0 (f .number))) fs ++ added e 0)
+unfolding noCollision inOrder
+level-ordered e zero fs c = survivors-ordered e 0 fs
 level-ordered e (suc l) fs c = c
 
-survivors-ordered : (e : Edit) (k : ℕ) (fss : List (List File)) → levelwise noCollision k (survivorsFrom e k fss) ≡ true → levelwise inOrder k (survivorsFrom e k fss) ≡ true
+-- so every level of survivors that do not collide is in order
+levels-ordered : (e : Edit) (k : ℕ) (fss : List (List File)) → levelwise noCollision k (survivorsFrom e k fss) ≡ true → levelwise inOrder k (survivorsFrom e k fss) ≡ true
 unfolding levelwise survivorsFrom
-survivors-ordered e k [] h = refl
-survivors-ordered e k (fs ∷ fss) h = both (inOrder k (survivors e k fs)) (levelwise inOrder (suc k) (survivorsFrom e (suc k) fss))
+levels-ordered e k [] h = refl
+levels-ordered e k (fs ∷ fss) h = both (inOrder k (survivors e k fs)) (levelwise inOrder (suc k) (survivorsFrom e (suc k) fss))
     (level-ordered e k fs (and-left (noCollision k (survivors e k fs)) (levelwise noCollision (suc k) (survivorsFrom e (suc k) fss)) h))
-    (survivors-ordered e (suc k) fss (and-right (noCollision k (survivors e k fs)) (levelwise noCollision (suc k) (survivorsFrom e (suc k) fss)) h))
+    (levels-ordered e (suc k) fss (and-right (noCollision k (survivors e k fs)) (levelwise noCollision (suc k) (survivorsFrom e (suc k) fss)) h))
 
 -- the numbers of the files that an edit adds are 64-bit words, as code passes them
 abbrev pub Words : Edit → Type 0
 Words e = (a : Addition) → In a (e .additions) → a .file .number < 2 ^ 64
 
+-- an accepted edit keeps a state well-formed
 pub edit-keeps : (p : Profile) (s : State) (e : Edit) (t : State) → Words e → edit p s e ≡ gives t → WF p t
-unfolding applied entryRefusals goodPointer _⇒_
+unfolding applied goodPointer
 edit-keeps p s e t words h =
     let a = edit-accepted p s e t h in
     let w = formed-says p s .0 (a .formed) in
     subst (λ (u : State). WF p u) (a .result) record {
       levels = survivorsFrom-length e 0 (s .files) ∙ w .levels;
-      good = λ f m. kept (λ g. goodFile p g ≡ true) (w .good) (addition-good p e (a .entries)) f (survived e 0 (s .files) f m);
+      good = λ f m. kept (λ g. goodFile p g ≡ true) (w .good) (λ x i. addition-good p x (a .additions x i)) f (survived e 0 (s .files) f m);
       words = λ f m. kept (λ g. g .number < 2 ^ 64) (w .words) words f (survived e 0 (s .files) f m);
       distinct-numbers = a .distinct-numbers;
-      room = ltb-false (p .room) (length (join (survivorsFrom e 0 (s .files)))) (a .fits);
-      ordered = survivors-ordered e 0 (s .files) (a .apart);
+      room = a .fits;
+      ordered = levels-ordered e 0 (s .files) (a .apart);
       pointer-levels = pointed-length (e .pointers) (s .pointers) ∙ w .pointer-levels;
-      pointers = λ o m. point (w .pointers) (a .entries) o (pointed-in (e .pointers) (s .pointers) o m);
+      pointers = λ o m. point (w .pointers) (a .pointers) o (pointed-in (e .pointers) (s .pointers) o m);
       counters = logged-bounded (s .counters) (e .log) (a .log) (w .counters);
     }
   where
@@ -234,13 +270,68 @@ edit-keeps p s e t words h =
     kept P u v f (inl m) = u f m
     kept P u v f (inr q) = subst (λ (g : File). P g) (q .2) (v (q .0) (q .1))
 
-    point : ((o : Option Key) → In o (s .pointers) → goodPointer p o ≡ true) → ((r : Refusal) → In r (entryRefusals p e) → r .applies ≡ false) → (o : Option Key)
+    point : ((o : Option Key) → In o (s .pointers) → goodPointer p o ≡ true) → ((q : Pointer) → In q (e .pointers) → PointerFits p q) → (o : Option Key)
         → In o (s .pointers) ⊎ ((q : Pointer) × In q (e .pointers) × (o ≡ some (q .key))) → goodPointer p o ≡ true
     point u v o (inl m) = u o m
-    point u v o (inr q) =
-        let k = goodKey (p .longest) (q .0 .key) in
-        let g : k ≡ true = not-false k (v (not k ⇒ 2) (in-left (additionRefusals p (e .additions)) (in-left (deletionRefusals p (e .deletions)) (pointers-listed p (e .pointers) (q .0) (q .1))))) in
-        rw (q .2) g
+    point u v o (inr q) = rw (q .2) (v (q .0) (q .1) .key)
+
+-- a level in order is ordered by smallest key
+pub levels-sorted : (l : ℕ) (fs : List File) → ((f : File) → In f fs → before (f .largest) (f .smallest) ≡ false) → inOrder l fs ≡ true → chain (λ f g. not (bySmallest g f)) fs ≡ true
+unfolding inOrder
+levels-sorted zero fs g h = h
+levels-sorted (suc l) fs g h = apart-sorted fs g h
+
+-- levels in order do not collide
+order-apart : (l : ℕ) (fss : List (List File)) → levelwise inOrder l fss ≡ true → levelwise noCollision l fss ≡ true
+unfolding levelwise noCollision inOrder
+order-apart l [] h = refl
+order-apart zero (fs ∷ fss) h = order-apart 1 fss (and-right (inOrder 0 fs) (levelwise inOrder 1 fss) h)
+order-apart (suc l) (fs ∷ fss) h = both (inOrder (suc l) fs) (levelwise noCollision (suc (suc l)) fss) (and-left (inOrder (suc l) fs) (levelwise inOrder (suc (suc l)) fss) h)
+    (order-apart (suc (suc l)) fss (and-right (inOrder (suc l) fs) (levelwise inOrder (suc (suc l)) fss) h))
+
+-- so survivors collide exactly where a level of them is not in order
+pub collisions : (e : Edit) (fss : List (List File)) → levelwise noCollision 0 (survivorsFrom e 0 fss) ≡ levelwise inOrder 0 (survivorsFrom e 0 fss)
+collisions e fss = same-test (levelwise noCollision 0 (survivorsFrom e 0 fss)) (levelwise inOrder 0 (survivorsFrom e 0 fss)) (levels-ordered e 0 fss) (order-apart 0 (survivorsFrom e 0 fss))
+
+-- ---- the empty edit leaves a well-formed state as it is
+
+-- its survivors are the files that were there
+empty-survivors : (l : ℕ) (fs : List File) → ((f : File) → In f fs → before (f .largest) (f .smallest) ≡ false) → inOrder l fs ≡ true → survivors emptyEdit l fs ≡ fs
+unfolding survivors emptyEdit added leftDeleted deletes keep any
+empty-survivors l fs g h =
+    ap (λ (gs : List File). sort bySmallest gs) (append-nil (keep (λ (f : File). true) fs) ∙ keep-all (λ (f : File). true) fs (λ f m. refl))
+    ∙ sort-sorted bySmallest fs (levels-sorted l fs g h)
+
+-- at every level
+empty-levels : (l : ℕ) (fss : List (List File)) → ((f : File) → In f (join fss) → before (f .largest) (f .smallest) ≡ false) → levelwise inOrder l fss ≡ true → survivorsFrom emptyEdit l fss ≡ fss
+unfolding survivorsFrom levelwise join
+empty-levels l [] g h = refl
+empty-levels l (fs ∷ fss) g h =
+    let a = empty-survivors l fs (λ f m. g f (in-left (join fss) m)) (and-left (inOrder l fs) (levelwise inOrder (suc l) fss) h) in
+    let b = empty-levels (suc l) fss (λ f m. g f (in-right fs m)) (and-right (inOrder l fs) (levelwise inOrder (suc l) fss) h) in
+    cc
+
+-- it is accepted and gives the same state
+pub empty-edit : (p : Profile) (s : State) → wellFormed p s ≡ true → edit p s emptyEdit ≡ gives s
+unfolding applied emptyEdit pointed logged tooMany badLog
+empty-edit p s h =
+    let w = formed-says p s .0 h in
+    let e = empty-levels 0 (s .files) (λ f m. goodFile-order p f (w .good f m)) (w .ordered) in
+    edit-accepts p s emptyEdit s .1 record {
+      result = ap (λ (fss : List (List File)). record { files = fss; pointers = s .pointers; counters = s .counters }) e;
+      formed = h;
+      few = none-many (p .deletions) (p .additions) (p .pointers);
+      log = refl;
+      pointers = λ q m. absurd (not-nil m);
+      deletions = λ d m. absurd (not-nil m);
+      additions = λ a m. absurd (not-nil m);
+      distinct-numbers = rw e (w .distinct-numbers);
+      fits = rw e (w .room);
+      apart = rw e (order-apart 0 (s .files) (w .ordered));
+    }
+  where
+    none-many : (a b c : ℕ) → not (leb 0 a && leb 0 b && leb 0 c) ≡ false
+    none-many a b c = rw (le-leb 0 a (omega arith), le-leb 0 b (omega arith), le-leb 0 c (omega arith))
 
 -- ---- counter calls
 counted-bounded : (d : CounterCall) (c : Counters) → counterBeyond d c ≡ false → ((n : ℕ) → In n (fiveOf c) → n ≤ maxCounter) → (n : ℕ) → In n (fiveOf (counted d c)) → n ≤ maxCounter
@@ -266,6 +357,7 @@ counted-bounded (manifest n) c b h = let r = five (c .next) (c .manifest) (c .la
 counted-bounded (previous n) c b h = let r = five (c .next) (c .manifest) (c .last) (c .log) (c .previous) .0 h in
     five (c .next) (c .manifest) (c .last) (c .log) n .1 (r .0, r .1, r .2, r .3, ltb-false maxCounter n b)
 
+-- an accepted counter call keeps a state well-formed
 pub count-keeps : (p : Profile) (s : State) (d : CounterCall) (t : State) → counter p s d ≡ gives t → WF p t
 unfolding setCounters
 count-keeps p s d t h =

@@ -1,18 +1,20 @@
 -- Histories: calls made one after another on a store, and what is left of them, read from the accepted calls. Assumes nothing.
-use Prim.Native.Nat.{ℕ, zero, suc, _+_, _≤_, _<_}
-use mathlib.Core.Path.{_≡_, refl}
-use mathlib.Core.Logic.{_⊎_, inl, inr, _↔_}
-use mathlib.Core.Bool.{Bool, true, false, not, cond}
+use Prim.Native.Nat.{ℕ, _<_}
+use mathlib.Core.Path.{_≡_}
+use mathlib.Core.Logic.{_↔_, _⊎_}
+use mathlib.Core.Bool.{cond, false}
 use mathlib.Core.List.{List, [], _∷_, _++_, List·Memᴰ as In}
 use mathlib.Core.Option.{Option, none, some}
 use lib.Dec.{eqb}
 use Rattle.model.specs.Key.{Key}
 use Rattle.model.specs.Answer.{Answer, gives, refused}
-use Rattle.model.specs.File.{Profile, File, State, Counters, fresh}
-use Rattle.model.specs.Edit.{Edit, Pointer, added, deletes, logged, edit}
-use Rattle.model.specs.Compact.{Pick, Picked, sizePick, manualPick, highKey}
-use Rattle.model.specs.Rest.{CounterCall, counted, counter}
+use Rattle.model.specs.File.{Profile, File, Counters, State, fresh}
+use Rattle.model.specs.Edit.{Pointer, Edit, added, deletes, logged, edit}
+use Rattle.model.specs.Counters.{CounterCall, counted, counter}
+use Rattle.model.specs.Range.{highKey}
+use Rattle.model.specs.Pick.{Pick, sizePick, manualPick}
 
+-- the calls that can change a store
 pub data Call : Type 0 where
   edits : Edit → Call
   picksSize : ℕ → Call
@@ -30,34 +32,41 @@ unfoldable pub kept : State → Answer State → State
 kept s (gives t) = t
 kept s (refused n) = s
 
+-- a pick alike
 unfoldable pub keptPick : State → Answer Pick → State
 keptPick s (gives k) = k .after
 keptPick s (refused n) = s
 
+-- the state after a call
 unfoldable pub after : Profile → State → Call → State
 after p s (edits e) = kept s (edit p s e)
 after p s (picksSize m) = keptPick s (sizePick p s m)
 after p s (picksRange m l a b) = keptPick s (manualPick p s m l a b)
 after p s (counts c) = kept s (counter p s c)
 
+-- what an edit or a counter call did, if accepted
 unfoldable pub did : Answer State → Event → List Event
 did (gives t) v = v ∷ []
 did (refused n) v = []
 
+-- what a pick did, if accepted: it set a pointer
 unfoldable pub didPick : Answer Pick → List Event
 didPick (gives k) = didPoint (k .picked .level) (highKey (k .picked .first)) ∷ []
 didPick (refused n) = []
 
+-- what a call did
 unfoldable pub event : Profile → State → Call → List Event
 event p s (edits e) = did (edit p s e) (didEdit e)
 event p s (picksSize m) = didPick (sizePick p s m)
 event p s (picksRange m l a b) = didPick (manualPick p s m l a b)
 event p s (counts c) = did (counter p s c) (didCount c)
 
+-- the state after a history
 unfoldable pub run : Profile → State → List Call → State
 run p s [] = s
 run p s (c ∷ cs) = run p (after p s c) cs
 
+-- what a history did
 unfoldable pub events : Profile → State → List Call → List Event
 events p s [] = []
 events p s (c ∷ cs) = event p s c ++ events p (after p s c) cs
@@ -82,12 +91,14 @@ unfoldable pub lastOf : List Pointer → ℕ → Option Key → Option Key
 lastOf [] l o = o
 lastOf (q ∷ qs) l o = lastOf qs l (cond (eqb (q .level) l) (some (q .key)) o)
 
+-- the pointer that is left at a level
 unfoldable pub pointerLeft : List Event → ℕ → Option Key → Option Key
 pointerLeft [] l o = o
 pointerLeft (didEdit e ∷ vs) l o = pointerLeft vs l (lastOf (e .pointers) l o)
 pointerLeft (didPoint j k ∷ vs) l o = pointerLeft vs l (cond (eqb j l) (some k) o)
 pointerLeft (didCount c ∷ vs) l o = pointerLeft vs l o
 
+-- the counters that are left
 unfoldable pub countersLeft : List Event → Counters → Counters
 countersLeft [] c = c
 countersLeft (didEdit e ∷ vs) c = countersLeft vs (logged (e .log) c)

@@ -1,28 +1,26 @@
 -- Reading a snapshot: what is read writes the same bytes, and every well-formed state can be read back. Assumes nothing.
-use Prim.Native.Nat.{ℕ, zero, suc, _+_, _*_, _/_, _%_, _^_, _≤_, _<_}
-use mathlib.Core.Path.{_≡_, refl, sym, _∙_, ap, subst}
-use mathlib.Core.Logic.{_⊎_, inl, inr, _↔_}
-use mathlib.Core.Bool.{Bool, true, false, not, _&&_, cond}
-use mathlib.Core.List.{List, [], _∷_, _++_, map, append-assoc, append-nil, List·Memᴰ as In, List·Memᴰ·head as here, List·Memᴰ·tail as there, List·Memᴰ·not-nil as not-nil, List·Memᴰ·append-cases as append-cases, Memᴰ·append-left as in-left, Memᴰ·append-right as in-right}
+use Prim.Native.Nat.{ℕ, zero, suc, _+_, _^_, _<_, _≤_}
+use mathlib.Core.Path.{_≡_, refl, ap, _∙_, subst}
+use mathlib.Core.Logic.{_⊎_, inl, inr}
+use mathlib.Core.Bool.{Bool, cond, true, false, _&&_}
+use mathlib.Core.List.{List, [], _∷_, _++_, List·Memᴰ as In, map, List·Memᴰ·head as here, List·Memᴰ·tail as there, List·Memᴰ·append-cases as append-cases, Memᴰ·append-left as in-left, Memᴰ·append-right as in-right, append-assoc, append-nil}
 use mathlib.Core.Option.{Option, none, some}
+use borrow.Author.Tests.{eqb-true, eq-eqb, le-leb}
+use lib.Dec.{eqb, leb}
+use lib.ListN.{length, getD, replicate, length-append, take, length-map, List·getD-map}
+use lib.Seq.{take-at, drop-at, set-at, append-snoc}
 use native.Mathlib.Omega.{arith}
-use lib.Dec.{leb, eqb}
-use lib.ListN.{length, getD, take, drop, set, replicate, length-append, length-replicate, length-map, List·getD-map}
-use lib.Seq.{take-at, drop-at, set-at, append-snoc, ext-getD}
-use borrow.Author.Tests.{le-leb, eqb-true, eq-eqb, not-true}
-use Rattle.lemmas.specs.Order.{clash, StrictWeak, asym, le-lt, on-order}
+use Rattle.lemmas.specs.Order.{clash}
+use Rattle.lemmas.specs.Lists.{sort, join, distinct, upFrom}
+use Rattle.lemmas.specs.ListLaws.{and-left, and-right, both, tally, sort-in, sort-tally, sort-chain, tally-append, tally-map, distinct-tally, distinct-of-tally, sort-length, distinct-append, map-same}
 use Rattle.lemmas.specs.Little.{number, bytes, bytes-length, bytes-number}
-use Rattle.model.specs.Key.{Key, before, before-order}
-use Rattle.lemmas.specs.Lists.{join, sort, chain, member, distinct, upFrom}
-use Rattle.lemmas.specs.ListLaws.{and-left, and-right, both, sort-in, sort-chain, sort-tally, sort-length, tally, tally-append, tally-map, distinct-tally, distinct-of-tally}
-use Rattle.model.specs.ByNumber.{not-again, sort-distinct, same-by-number}
-use Rattle.model.specs.HistoryLaws.{distinct-append, distinct-level, numbers-append}
-use Rattle.model.specs.Formed.{WF, formed-says}
-use Rattle.model.specs.Picks.{goodFile-order}
-use Rattle.model.specs.Demand3.{Fits, storable, same-bytes}
-use Rattle.model.specs.File.{Profile, File, State, Counters, level, numbers, bySmallest, inOrder, levelwise, wellFormed}
-use Rattle.model.specs.Snapshot.{byNumber, writeKey, writeFile, Entry, entries, writeEntry, section, writeLevel, fiveOf, encode, Read, Reader, onward, _>>=_, give, times, readBytes, readNumber, readKey, readFile, readSection, fromFive, readLevel, readPointer, placed, readState, sameBytes, accept, decode}
-use Rattle.model.specs.SnapshotLaws.{Writable, WritableEntry, WritableLevel, Storable}
+use Rattle.model.specs.Key.{Key, before}
+use Rattle.model.specs.File.{Profile, File, State, level, numbers, bySmallest, apart, inOrder, levelwise, wellFormed}
+use Rattle.model.specs.Snapshot.{byNumber, writeKey, writeFile, Entry, entries, writeEntry, section, writeLevel, fiveOf, encode, Read, Reader, onward, _>>=_, give, times, readBytes, readNumber, readKey, readFile, readSection, readLevel, readPointer, placed, fromFive, readState, sameBytes, accept, decode}
+use Rattle.model.specs.EditLaws.{bySmallest-order}
+use Rattle.model.specs.Formed.{WF, formed-says, goodFile-order, numbers-append, distinct-level, apart-sorted, apart-ties}
+use Rattle.model.specs.SnapshotLaws.{Writable, WritableEntry, WritableLevel, Storable, Fits, storable, same-bytes}
+use Rattle.model.specs.ByNumber.{sorted-one, sort-distinct, same-by-number}
 
 -- ---- what is read writes the same bytes
 pub same-eq : (a b : List ℕ) → sameBytes a b ≡ true → a ≡ b
@@ -35,11 +33,13 @@ same-eq (x ∷ xs) (y ∷ ys) e =
     let q : xs ≡ ys = same-eq xs ys (and-right (eqb x y) (sameBytes xs ys) e) in
     cc
 
+-- a list has the same bytes as itself
 pub eq-same : (a : List ℕ) → sameBytes a a ≡ true
 unfolding sameBytes
 eq-same [] = refl
 eq-same (x ∷ xs) = both (eqb x x) (sameBytes xs xs) (eq-eqb x x refl) (eq-same xs)
 
+-- what is read is well-formed and writes these very bytes
 pub decode-sound : (p : Profile) (bs : List ℕ) (s : State) → decode p bs ≡ some s → (wellFormed p s ≡ true) × (encode s ≡ bs)
 unfolding decode accept
 decode-sound p bs s h = go (readState p bs) h
@@ -68,6 +68,7 @@ module _ {A B : Type 0} where
   unfolding _>>=_ onward Reads
   then r f v w a b h k x = rw (append-assoc, h (w ++ x)) (k x)
 
+-- reading nothing
 gives-it : {A : Type 0} (a : A) → Reads (give a) [] a
 unfolding give Reads
 gives-it a x = refl
@@ -76,22 +77,26 @@ gives-it a x = refl
 reads-as : {A : Type 0} (r : Reader A) (v w : List ℕ) (a : A) → v ≡ w → Reads r v a → Reads r w a
 reads-as r v w a e h = subst (λ (u : List ℕ). Reads r u a) e h
 
+-- so many bytes
 reads-bytes : (n : ℕ) (v : List ℕ) → length v ≡ n → Reads (readBytes n) v v
 unfolding readBytes Reads
 reads-bytes n v e x =
     let l : leb n (length (v ++ x)) ≡ true = le-leb n (length (v ++ x)) (omega (arith, length-append v x)) in
     rw (l, take-at v x n e, drop-at v x n e)
 
+-- a number of a width
 reads-number : (w n : ℕ) → n < 256 ^ w → Reads (readNumber w) (bytes w n) n
 unfolding readNumber
 reads-number w n h =
     reads-as (readNumber w) (bytes w n ++ []) (bytes w n) n (append-nil (bytes w n))
     (then (readBytes w) (λ bs. give (number bs)) (bytes w n) [] (bytes w n) n (reads-bytes w (bytes w n) (bytes-length w n)) (rw bytes-number (gives-it n)))
 
+-- a key
 reads-key : (k : Key) → length k < 256 → Reads readKey (writeKey k) k
 unfolding readKey writeKey
 reads-key k h = then (readNumber 1) (λ n. readBytes n) (bytes 1 (length k)) k (length k) k (reads-number 1 (length k) h) (reads-bytes (length k) k refl)
 
+-- a file
 reads-file : (f : File) → Writable f → Reads readFile (writeFile f) f
 unfolding readFile writeFile
 reads-file f w =
@@ -107,6 +112,7 @@ reads-file f w =
     (then (readNumber 8) (λ (n : ℕ). readNumber 8 >>= λ z. readKey >>= λ a. readKey >>= λ b. give (record { number = n; size = z; smallest = a; largest = b }))
     (bytes 8 n) (bytes 8 z ++ (writeKey a ++ (writeKey b ++ []))) n f (reads-number 8 n (w .number)) r₂)
 
+-- a pointer
 reads-entry : (e : Entry) → WritableEntry e → Reads readPointer (writeEntry e) e
 unfolding readPointer writeEntry
 reads-entry e w =
@@ -123,10 +129,7 @@ reads-times r w v (i ∷ is) h =
     reads-as (times (suc (length is)) r) (w i ++ (join (map w is) ++ [])) (w i ++ join (map w is)) (v i ∷ map v is) (simp append-nil)
     (then r (λ a. times (length is) r >>= λ as′. give (a ∷ as′)) (w i) (join (map w is) ++ []) (v i) (v i ∷ map v is) (h i (here refl)) t)
 
-map-same : {A : Type 0} (xs : List A) → map (λ x. x) xs ≡ xs
-map-same [] = refl
-map-same (x ∷ xs) = ap (λ (r : List _). x ∷ r) (map-same xs)
-
+-- a section
 reads-section : {A : Type 0} (r : Reader A) (w : A → List ℕ) (xs : List A) → ((a : A) → In a xs → Reads r (w a) a) → length xs < 65536 → Reads (readSection r) (section w xs) xs
 unfolding readSection section
 reads-section r w xs h few = then (readNumber 2) (λ n. times n r) (bytes 2 (length xs)) (join (map w xs)) (length xs) xs
@@ -136,6 +139,7 @@ reads-section r w xs h few = then (readNumber 2) (λ n. times n r) (bytes 2 (len
 unfoldable pub inReadOrder : List File → List File
 inReadOrder fs = sort bySmallest (sort byNumber fs)
 
+-- a level
 reads-level : (fs : List File) → WritableLevel fs → Reads readLevel (writeLevel fs) (inReadOrder fs)
 unfolding readLevel writeLevel inReadOrder
 reads-level fs w =
@@ -145,7 +149,7 @@ reads-level fs w =
     (reads-section readFile writeFile gs (λ f m. reads-file f (w .files f (sort-in byNumber fs f .0 m))) (w .few)) (gives-it (sort bySmallest gs)))
 
 -- ---- pointers put in their places
-placed-back : (ps : List (Option Key)) (l : ℕ) (pre : List (Option Key)) → length pre ≡ l → placed (entries l ps) (pre ++ replicate (length ps) none) ≡ pre ++ ps
+pub placed-back : (ps : List (Option Key)) (l : ℕ) (pre : List (Option Key)) → length pre ≡ l → placed (entries l ps) (pre ++ replicate (length ps) none) ≡ pre ++ ps
 unfolding placed entries
 placed-back [] l pre e = refl
 placed-back (none ∷ ps) l pre e =
@@ -172,10 +176,12 @@ levels-back g k (suc m) (fs ∷ fss) h b =
     let rest = levels-back g (suc k) m fss (λ i q. let e′ : k + suc i ≡ suc k + i = omega arith in rw e′ at (h (suc i) (omega arith))) (omega arith) in
     ap (λ (x : List File). inReadOrder x ∷ take (length fss) (map (λ l. inReadOrder (g l)) (upFrom (suc k) m))) first ∙ ap (λ (r : List (List File)). inReadOrder fs ∷ r) rest
 
+-- all levels
 seven-levels : (s : State) → Storable s → Reads (times 7 readLevel) (join (map (λ l. writeLevel (level s l)) (upFrom 0 7))) (map (λ l. inReadOrder (level s l)) (upFrom 0 7))
 unfolding upFrom
 seven-levels s w = reads-times readLevel (λ l. writeLevel (level s l)) (λ l. inReadOrder (level s l)) (upFrom 0 7) (λ l m. reads-level (level s l) (w .levels l))
 
+-- a state
 reads-state : (p : Profile) (s : State) → Storable s → length (s .files) ≡ p .levels → length (s .pointers) ≡ p .levels → p .levels ≤ 7 → Reads (readState p) (encode s) (asRead s)
 unfolding readState encode asRead level fiveOf fromFive
 reads-state p s w nf np small =
@@ -210,79 +216,7 @@ reads-state p s w nf np small =
     whole : read ≡ asRead s
     whole = λ i. record { files = files-are i; pointers = pointers-are i; counters = s .counters }
 
--- ---- sorted lists of files with the same members, no number twice and no ties, are one
-module _ (lt : File → File → Bool) (o : StrictWeak lt) where
-  abbrev sorted : List File → Bool
-  sorted fs = chain (λ f g. not (lt g f)) fs
-
-  sorted-least : (x y : File) (xs : List File) → sorted (x ∷ xs) ≡ true → In y (x ∷ xs) → lt y x ≡ false
-  unfolding chain
-  sorted-least x y xs c (here e) = subst (λ (z : File). lt z x ≡ false) (sym e) (o .irrefl x)
-  sorted-least x y [] c (there m) = absurd (not-nil m)
-  sorted-least x y (z ∷ zs) c (there m) =
-      o .ntrans y z x (sorted-least z y zs (and-right (not (lt z x)) (sorted (z ∷ zs)) c) m) (not-true (lt z x) (and-left (not (lt z x)) (sorted (z ∷ zs)) c))
-
-  sorted-rest : (x : File) (xs : List File) → sorted (x ∷ xs) ≡ true → sorted xs ≡ true
-  unfolding chain
-  sorted-rest x [] c = refl
-  sorted-rest x (z ∷ zs) c = and-right (not (lt z x)) (sorted (z ∷ zs)) c
-
-  pub sorted-one : (xs ys : List File) → sorted xs ≡ true → sorted ys ≡ true → distinct (numbers xs) ≡ true → distinct (numbers ys) ≡ true
-      → ((f : File) → In f xs → In f ys) → ((f : File) → In f ys → In f xs) → ((f g : File) → In f xs → In g xs → lt f g ≡ false → lt g f ≡ false → f ≡ g) → xs ≡ ys
-  unfolding distinct numbers
-  sorted-one [] [] c d p q s t ties = refl
-  sorted-one [] (y ∷ ys) c d p q s t ties = absurd (not-nil (t y (here refl)))
-  sorted-one (x ∷ xs) [] c d p q s t ties = absurd (not-nil (s x (here refl)))
-  sorted-one (x ∷ xs) (y ∷ ys) c d p q s t ties =
-      let e : x ≡ y = ties x y (here refl) (t y (here refl)) (sorted-least y x ys d (s x (here refl))) (sorted-least x y xs c (t y (here refl))) in
-      let rest = sorted-one xs ys (sorted-rest x xs c) (sorted-rest y ys d)
-      (and-right (not (member (x .number) (numbers xs))) (distinct (numbers xs)) p) (and-right (not (member (y .number) (numbers ys))) (distinct (numbers ys)) q)
-      (λ f m. over x y xs ys e p f m (s f (there m))) (λ f m. over y x ys xs (sym e) q f m (t f (there m))) (λ f g m n. ties f g (there m) (there n)) in
-      cc
-    where
-      over : (u v : File) (us vs : List File) → u ≡ v → distinct (numbers (u ∷ us)) ≡ true → (f : File) → In f us → In f (v ∷ vs) → In f vs
-      over u v us vs e h f m (here i) = absurd (not-again u f us h m (ap (λ (g : File). g .number) (e ∙ sym i)))
-      over u v us vs e h f m (there k) = k
-
-bySmallest-order : StrictWeak bySmallest
-unfolding bySmallest
-bySmallest-order = on-order before (λ (f : File). f .smallest) before-order
-
--- ---- a level whose files stand apart is read back as it is
-abbrev apart : List File → Bool
-apart fs = chain (λ (f g : File). before (f .largest) (g .smallest)) fs
-
--- its first file begins before every later one
-apart-first : (x y : File) (xs : List File) → ((f : File) → In f (x ∷ xs) → before (f .largest) (f .smallest) ≡ false) → apart (x ∷ xs) ≡ true → In y xs → bySmallest x y ≡ true
-unfolding chain bySmallest
-apart-first x y [] g c m = absurd (not-nil m)
-apart-first x y (z ∷ zs) g c m =
-    let step : before (x .smallest) (z .smallest) ≡ true = le-lt before before-order (x .smallest) (x .largest) (z .smallest) (g x (here refl)) (and-left (before (x .largest) (z .smallest)) (apart (z ∷ zs)) c) in
-    go step (apart-first z y zs (λ f i. g f (there i)) (and-right (before (x .largest) (z .smallest)) (apart (z ∷ zs)) c)) m
-  where
-    go : before (x .smallest) (z .smallest) ≡ true → (In y zs → before (z .smallest) (y .smallest) ≡ true) → In y (z ∷ zs) → before (x .smallest) (y .smallest) ≡ true
-    go step ih (here e) = subst (λ (f : File). before (x .smallest) (f .smallest) ≡ true) (sym e) step
-    go step ih (there k) = before-order .trans (x .smallest) (z .smallest) (y .smallest) step (ih k)
-
-apart-sorted : (fs : List File) → ((f : File) → In f fs → before (f .largest) (f .smallest) ≡ false) → apart fs ≡ true → sorted bySmallest bySmallest-order fs ≡ true
-unfolding chain
-apart-sorted [] g c = refl
-apart-sorted (x ∷ []) g c = refl
-apart-sorted (x ∷ z ∷ zs) g c = both (not (bySmallest z x)) (sorted bySmallest bySmallest-order (z ∷ zs))
-    (rw (asym bySmallest bySmallest-order x z (apart-first x z (z ∷ zs) g c (here refl)))) (apart-sorted (z ∷ zs) (λ f i. g f (there i)) (and-right (before (x .largest) (z .smallest)) (apart (z ∷ zs)) c))
-
-apart-rest : (x : File) (xs : List File) → apart (x ∷ xs) ≡ true → apart xs ≡ true
-unfolding chain
-apart-rest x [] c = refl
-apart-rest x (z ∷ zs) c = and-right (before (x .largest) (z .smallest)) (apart (z ∷ zs)) c
-
-apart-ties : (fs : List File) → ((f : File) → In f fs → before (f .largest) (f .smallest) ≡ false) → apart fs ≡ true
-    → (f g : File) → In f fs → In g fs → bySmallest f g ≡ false → bySmallest g f ≡ false → f ≡ g
-apart-ties (x ∷ xs) w c f g (here e) (here e′) p q = e ∙ sym e′
-apart-ties (x ∷ xs) w c f g (here e) (there m) p q = clash (subst (λ (h : File). bySmallest h g ≡ true) (sym e) (apart-first x g xs w c m)) p
-apart-ties (x ∷ xs) w c f g (there m) (here e) p q = clash (subst (λ (h : File). bySmallest h f ≡ true) (sym e) (apart-first x f xs w c m)) q
-apart-ties (x ∷ xs) w c f g (there m) (there n) p q = apart-ties xs (λ h i. w h (there i)) (apart-rest x xs c) f g m n p q
-
+-- a level whose files stand apart is read back as it is
 pub apart-as-read : (fs : List File) → ((f : File) → In f fs → before (f .largest) (f .smallest) ≡ false) → apart fs ≡ true → distinct (numbers fs) ≡ true → fs ≡ inReadOrder fs
 unfolding inReadOrder
 apart-as-read fs g c d = sorted-one bySmallest bySmallest-order fs (inReadOrder fs) (apart-sorted fs g c) (sort-chain bySmallest bySmallest-order (sort byNumber fs))
@@ -300,21 +234,25 @@ join-read (fs ∷ fss) f m = go (join-read fss f) (append-cases (inReadOrder fs)
     go ih (inl k) = in-left (join fss) (sort-in byNumber fs f .0 (sort-in bySmallest (sort byNumber fs) f .0 k))
     go ih (inr k) = in-right fs (ih k)
 
-join-tally : (q : File → Bool) (fss : List (List File)) → tally q (join (map inReadOrder fss)) ≡ tally q (join fss)
+-- the same tallies
+as-read-tally : (q : File → Bool) (fss : List (List File)) → tally q (join (map inReadOrder fss)) ≡ tally q (join fss)
 unfolding join inReadOrder
-join-tally q [] = refl
-join-tally q (fs ∷ fss) = omega (arith, tally-append q (inReadOrder fs) (join (map inReadOrder fss)), tally-append q fs (join fss), sort-tally bySmallest q (sort byNumber fs), sort-tally byNumber q fs, join-tally q fss)
+as-read-tally q [] = refl
+as-read-tally q (fs ∷ fss) = omega (arith, tally-append q (inReadOrder fs) (join (map inReadOrder fss)), tally-append q fs (join fss), sort-tally bySmallest q (sort byNumber fs), sort-tally byNumber q fs, as-read-tally q fss)
 
-join-length : (fss : List (List File)) → length (join (map inReadOrder fss)) ≡ length (join fss)
+-- as many files
+as-read-length : (fss : List (List File)) → length (join (map inReadOrder fss)) ≡ length (join fss)
 unfolding join inReadOrder
-join-length [] = refl
-join-length (fs ∷ fss) = omega (arith, length-append (inReadOrder fs) (join (map inReadOrder fss)), length-append fs (join fss), sort-length bySmallest (sort byNumber fs), sort-length byNumber fs, join-length fss)
+as-read-length [] = refl
+as-read-length (fs ∷ fss) = omega (arith, length-append (inReadOrder fs) (join (map inReadOrder fss)), length-append fs (join fss), sort-length bySmallest (sort byNumber fs), sort-length byNumber fs, as-read-length fss)
 
+-- a level in order is in order as read
 one-ordered : (l : ℕ) (fs : List File) → ((f : File) → In f fs → before (f .largest) (f .smallest) ≡ false) → distinct (numbers fs) ≡ true → inOrder l fs ≡ true → inOrder l (inReadOrder fs) ≡ true
 unfolding inOrder inReadOrder
 one-ordered zero fs g d h = sort-chain bySmallest bySmallest-order (sort byNumber fs)
 one-ordered (suc l) fs g d h = subst (λ (gs : List File). apart gs ≡ true) (apart-as-read fs g h d) h
 
+-- so are all levels
 all-ordered : (l : ℕ) (fss : List (List File)) → ((f : File) → In f (join fss) → before (f .largest) (f .smallest) ≡ false) → distinct (numbers (join fss)) ≡ true → levelwise inOrder l fss ≡ true → levelwise inOrder l (map inReadOrder fss) ≡ true
 unfolding levelwise join
 all-ordered l [] g d h = refl
@@ -324,6 +262,7 @@ all-ordered l (fs ∷ fss) g d h =
     (one-ordered l fs (λ f m. g f (in-left (join fss) m)) (dd .0) (and-left (inOrder l fs) (levelwise inOrder (suc l) fss) h))
     (all-ordered (suc l) fss (λ f m. g f (in-right fs m)) (dd .1) (and-right (inOrder l fs) (levelwise inOrder (suc l) fss) h))
 
+-- a well-formed state is well-formed as read
 pub as-read-formed : (p : Profile) (s : State) → WF p s → WF p (asRead s)
 unfolding asRead numbers
 as-read-formed p s w = record {
@@ -331,7 +270,7 @@ as-read-formed p s w = record {
   good = λ f m. w .good f (join-read (s .files) f m);
   words = λ f m. w .words f (join-read (s .files) f m);
   distinct-numbers = distinct-of-tally (numbers (join (map inReadOrder (s .files)))) (λ n. bound n);
-  room = omega (arith, join-length (s .files), w .room);
+  room = omega (arith, as-read-length (s .files), w .room);
   ordered = all-ordered 0 (s .files) (λ f m. goodFile-order p f (w .good f m)) (w .distinct-numbers) (w .ordered);
   pointer-levels = w .pointer-levels;
   pointers = w .pointers;
@@ -342,7 +281,7 @@ as-read-formed p s w = record {
     bound n = omega (
       arith,
       tally-map (λ m. eqb m n) (λ (f : File). f .number) (join (map inReadOrder (s .files))),
-      join-tally (λ (f : File). eqb (f .number) n) (s .files),
+      as-read-tally (λ (f : File). eqb (f .number) n) (s .files),
       tally-map (λ m. eqb m n) (λ (f : File). f .number) (join (s .files)),
       distinct-tally (numbers (join (s .files))) n (w .distinct-numbers),
     )

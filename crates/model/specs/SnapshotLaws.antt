@@ -1,48 +1,42 @@
 -- A snapshot determines what it was written from: each part of it says where it ends. Assumes nothing.
-use Prim.Native.Nat.{ℕ, zero, suc, _+_, _*_, _/_, _%_, _^_, _≤_, _<_}
-use mathlib.Core.Path.{_≡_, refl, sym, _∙_, ap, subst}
-use mathlib.Core.Logic.{_⊎_, inl, inr, _↔_}
-use mathlib.Core.Bool.{Bool, true, false, not, _&&_, cond}
-use mathlib.Core.List.{List, [], _∷_, _++_, map, append-assoc, append-nil, List·Memᴰ as In, List·Memᴰ·head as here, List·Memᴰ·tail as there, List·Memᴰ·not-nil as not-nil}
+use Prim.Native.Nat.{ℕ, zero, suc, _+_, _*_, _^_, _<_, _≤_}
+use mathlib.Core.Path.{_≡_, refl, ap, sym, _∙_, subst, fun-ext}
+use mathlib.Core.Bool.{true}
+use mathlib.Core.List.{List, [], _∷_, _++_, List·Memᴰ as In, map, List·Memᴰ·head as here, List·Memᴰ·tail as there, List·Memᴰ·not-nil as not-nil, append-assoc}
 use mathlib.Core.Option.{Option, none, some}
+use lib.ListN.{length, getD, set, length-append}
+use native.Mathlib.Nat.{mul-le-mul-right, add-mul}
 use native.Mathlib.Omega.{arith}
-use lib.ListN.{length, getD}
-use Rattle.lemmas.specs.Order.{clash}
-use Rattle.lemmas.specs.Little.{bytes, bytes-apart}
-use Rattle.model.specs.Key.{Key}
-use Rattle.lemmas.specs.Lists.{join, sort, upFrom}
-use Rattle.lemmas.specs.ListLaws.{sort-in}
-use Rattle.model.specs.File.{Profile, File, State, Counters, level}
+use Rattle.lemmas.specs.Lists.{sort, join, sum, upFrom}
+use Rattle.lemmas.specs.ListLaws.{sort-in, sort-length, join-in, join-length, append-apart, joined-most, stretch-few}
+use Rattle.lemmas.specs.Little.{bytes, bytes-length, bytes-apart}
+use Rattle.model.specs.Key.{Key, goodKey}
+use Rattle.model.specs.File.{Profile, full, File, Counters, State, level, maxCounter, maxSize, goodFile, apart, goodPointer}
 use Rattle.model.specs.Snapshot.{byNumber, writeKey, writeFile, Entry, entries, writeEntry, section, writeLevel, fiveOf, encode}
+use Rattle.model.specs.KeyLaws.{goodKey-says}
+use Rattle.model.specs.Formed.{WF, goodFile-says}
 
 -- a way of writing that says where it ends: what stands behind tells nothing of it
 pub record Delimited {A : Type 0} (Good : A → Type 0) (w : A → List ℕ) : Type 0 where
   pub apart : (a b : A) → Good a → Good b → (x y : List ℕ) → w a ++ x ≡ w b ++ y → (a ≡ b) × (x ≡ y)
 
-same-length : (a b x y : List ℕ) → length a ≡ length b → a ++ x ≡ b ++ y → (a ≡ b) × (x ≡ y)
-same-length [] [] x y h e = (refl, e)
-same-length [] (b ∷ bs) x y h e = absurd (omega arith)
-same-length (a ∷ as′) [] x y h e = absurd (omega arith)
-same-length (a ∷ as′) (b ∷ bs) x y h e =
-    let q : a ≡ b = cc in
-    let r = same-length as′ bs x y (omega arith) (cc) in
-    let t : as′ ≡ bs = r .0 in
-    (cc, r .1)
-
+-- a key says where it ends
 key-apart : Delimited (λ (k : Key). length k < 256) writeKey
 unfolding writeKey
 key-apart = record {
   apart = λ a b g h x y e.
       let r = bytes-apart 1 (length a) (length b) g h (a ++ x) (b ++ y) (simp append-assoc at e) in
-      same-length a b x y (r .0) (r .1);
+      append-apart a b x y (r .0) (r .1);
 }
 
+-- a file whose parts fit their widths
 pub record Writable (f : File) : Type 0 where
   pub number : f .number < 256 ^ 8
   pub size : f .size < 256 ^ 8
   pub smallest : length (f .smallest) < 256
   pub largest : length (f .largest) < 256
 
+-- a file says where it ends
 file-apart : Delimited Writable writeFile
 unfolding writeFile
 file-apart = record {
@@ -55,10 +49,12 @@ file-apart = record {
       (λ i. record { number = r₁ .0 i; size = r₂ .0 i; smallest = r₃ .0 i; largest = r₄ .0 i }, r₄ .1);
 }
 
+-- a pointer whose parts fit their widths
 pub record WritableEntry (e : Entry) : Type 0 where
   pub level : e .level < 256
   pub key : length (e .key) < 256
 
+-- a pointer says where it ends
 entry-apart : Delimited WritableEntry writeEntry
 unfolding writeEntry
 entry-apart = record {
@@ -68,6 +64,7 @@ entry-apart = record {
       (λ i. record { level = r₁ .0 i; key = r₂ .0 i }, r₂ .1);
 }
 
+-- a counter says where it ends
 number-apart : Delimited (λ n. n < 256 ^ 8) (bytes 8)
 number-apart = record { apart = bytes-apart 8 }
 
@@ -100,11 +97,13 @@ pub record WritableLevel (fs : List File) : Type 0 where
   pub files : (f : File) → In f fs → Writable f
   pub few : length (sort byNumber fs) < 65536
 
+-- a level says where it ends
 level-apart : (fs gs : List File) → WritableLevel fs → WritableLevel gs → (x y : List ℕ) → writeLevel fs ++ x ≡ writeLevel gs ++ y → (sort byNumber fs ≡ sort byNumber gs) × (x ≡ y)
 unfolding writeLevel
 level-apart fs gs g h x y e = section-apart Writable writeFile file-apart (sort byNumber fs) (sort byNumber gs)
     (λ f m. g .files f (sort-in byNumber fs f .0 m), g .few) (λ f m. h .files f (sort-in byNumber gs f .0 m), h .few) x y e
 
+-- levels one after another
 levels-apart : (u v : ℕ → List File) → ((l : ℕ) → WritableLevel (u l)) → ((l : ℕ) → WritableLevel (v l)) → (k n : ℕ)
     → join (map (λ l. writeLevel (u l)) (upFrom k n)) ≡ join (map (λ l. writeLevel (v l)) (upFrom k n)) → (i : ℕ) → i < n → sort byNumber (u (k + i)) ≡ sort byNumber (v (k + i))
 unfolding join upFrom
@@ -130,6 +129,7 @@ entries-from l (none ∷ ps) e m = omega (arith, entries-from (suc l) ps e m)
 entries-from l (some k ∷ ps) e (here q) = omega (arith, ap (λ (x : Entry). x .level) q)
 entries-from l (some k ∷ ps) e (there m) = omega (arith, entries-from (suc l) ps e m)
 
+-- the entries determine the pointers
 entries-same : (l : ℕ) (ps qs : List (Option Key)) → length ps ≡ length qs → entries l ps ≡ entries l qs → ps ≡ qs
 unfolding entries
 entries-same l [] [] n e = refl
@@ -151,11 +151,13 @@ pub record Storable (s : State) : Type 0 where
   pub few-pointers : length (entries 0 (s .pointers)) < 65536
   pub levels : (l : ℕ) → WritableLevel (level s l)
 
+-- what two states that write the same bytes share
 pub record SameWritten (s t : State) : Type 0 where
   pub counters : s .counters ≡ t .counters
   pub pointers : s .pointers ≡ t .pointers
   pub levels : (l : ℕ) → l < 7 → sort byNumber (level s l) ≡ sort byNumber (level t l)
 
+-- states that write the same bytes share all that
 pub encode-apart : (s t : State) → Storable s → Storable t → length (s .pointers) ≡ length (t .pointers) → encode s ≡ encode t → SameWritten s t
 unfolding encode fiveOf
 encode-apart s t g h n e =
@@ -182,3 +184,152 @@ encode-apart s t g h n e =
 
     at : fiveOf (s .counters) ≡ fiveOf (t .counters) → (i : ℕ) → getD (fiveOf (s .counters)) i 0 ≡ getD (fiveOf (t .counters)) i 0
     at q i = ap (λ (x : List ℕ). getD x i 0) q
+
+-- ---- what fits in a snapshot
+pub record Fits (p : Profile) : Type 0 where
+  pub levels : p .levels ≤ 7
+  pub keys : p .longest + 8 < 256
+  pub room : p .room < 65536
+
+-- the full profile does
+pub full-fits : Fits full
+unfolding full
+full-fits = record { levels = omega arith; keys = omega arith; room = omega arith }
+
+-- the bounds on a good file
+pub record FileFacts (p : Profile) (f : File) : Type 0 where
+  pub smallest : length (f .smallest) ≤ p .longest + 8
+  pub largest : length (f .largest) ≤ p .longest + 8
+  pub size : f .size ≤ maxSize
+
+-- a good file is within them
+pub file-facts : (p : Profile) (f : File) → goodFile p f ≡ true → FileFacts p f
+file-facts p f h =
+    let g = goodFile-says p f .0 h in
+    record { smallest = goodKey-says (p .longest) (f .smallest) .0 (g .smallest) .few-bytes; largest = goodKey-says (p .longest) (f .largest) .0 (g .largest) .few-bytes; size = g .size }
+
+-- no more entries than pointers
+pub entries-few : (l : ℕ) (ps : List (Option Key)) → length (entries l ps) ≤ length ps
+unfolding entries
+entries-few l [] = omega arith
+entries-few l (none ∷ ps) = omega (arith, entries-few (suc l) ps)
+entries-few l (some k ∷ ps) = omega (arith, entries-few (suc l) ps)
+
+-- an entry is a pointer that is set
+pub entries-among : (l : ℕ) (ps : List (Option Key)) (e : Entry) → In e (entries l ps) → (e .level < l + length ps) × In (some (e .key)) ps
+unfolding entries
+entries-among l [] e m = absurd (not-nil m)
+entries-among l (none ∷ ps) e m = let r = entries-among (suc l) ps e m in (omega (arith, r .0), there (r .1))
+entries-among l (some k ∷ ps) e (here q) = (omega (arith, ap (λ (x : Entry). x .level) q), here (ap (λ (x : Entry). some (x .key)) q))
+entries-among l (some k ∷ ps) e (there m) = let r = entries-among (suc l) ps e m in (omega (arith, r .0), there (r .1))
+
+-- a well-formed state fits in a snapshot
+pub storable : (p : Profile) (s : State) → Fits p → WF p s → Storable s
+unfolding maxCounter maxSize goodPointer level
+storable p s fit w = record {
+  counters = λ n m. omega (arith, w .counters n m);
+  pointers = λ e m. let r = entries-among 0 (s .pointers) e m in record {
+    level = omega (arith, r .0, w .pointer-levels, fit .levels);
+    key = omega (arith, goodKey-says (p .longest) (e .key) .0 (w .pointers (some (e .key)) (r .1)) .few-bytes, fit .keys);
+  };
+  few-pointers = omega (arith, entries-few 0 (s .pointers), w .pointer-levels, fit .levels);
+  levels = λ l. record {
+    files = λ f m. let i = join-in (s .files) l f m in let k = file-facts p f (w .good f i) in record {
+      number = omega (arith, w .words f i);
+      size = omega (arith, k .size);
+      smallest = omega (arith, k .smallest, fit .keys);
+      largest = omega (arith, k .largest, fit .keys);
+    };
+    few = omega (arith, sort-length byNumber (getD (s .files) l []), join-length (s .files) l, w .room, fit .room);
+  };
+}
+
+-- ---- what is written depends on nothing but the counters, the pointers and the levels by number
+pub same-bytes : (s t : State) → s .counters ≡ t .counters → s .pointers ≡ t .pointers → ((l : ℕ) → sort byNumber (level s l) ≡ sort byNumber (level t l)) → encode s ≡ encode t
+unfolding encode writeLevel
+same-bytes s t c q h =
+    let lv : _≡_ {A = ℕ → List ℕ} (λ l. section writeFile (sort byNumber (level s l))) (λ l. section writeFile (sort byNumber (level t l))) = fun-ext (λ l. ap (λ (fs : List File). section writeFile fs) (h l)) in
+    ap (λ (x : Counters). section (bytes 8) (fiveOf x) ++ section writeEntry (entries 0 (s .pointers)) ++ join (map (λ l. section writeFile (sort byNumber (level s l))) (upFrom 0 7))) c
+    ∙ ap (λ (x : List (Option Key)). section (bytes 8) (fiveOf (t .counters)) ++ section writeEntry (entries 0 x) ++ join (map (λ l. section writeFile (sort byNumber (level s l))) (upFrom 0 7))) q
+    ∙ ap (λ (g : ℕ → List ℕ). section (bytes 8) (fiveOf (t .counters)) ++ section writeEntry (entries 0 (t .pointers)) ++ join (map g (upFrom 0 7))) lv
+
+-- a section: its count, then its parts
+pub section-length : {A : Type 0} (w : A → List ℕ) (xs : List A) → length (section w xs) ≡ 2 + length (join (map w xs))
+unfolding section
+section-length w xs = omega (arith, length-append (bytes 2 (length xs)) (join (map w xs)), bytes-length 2 (length xs))
+
+section-most : {A : Type 0} (w : A → List ℕ) (c : ℕ) (xs : List A) → ((x : A) → In x xs → length (w x) ≤ c) → length (section w xs) ≤ 2 + length xs * c
+section-most w c xs h = let a = joined-most w c xs h in omega (arith, section-length w xs)
+
+-- a key: a length byte and its bytes
+pub writeKey-length : (k : Key) → length (writeKey k) ≡ 1 + length k
+unfolding writeKey
+writeKey-length k = omega (arith, length-append (bytes 1 (length k)) k, bytes-length 1 (length k))
+
+-- a file: 18 bytes and its two keys
+pub writeFile-length : (f : File) → length (writeFile f) ≡ 18 + length (f .smallest) + length (f .largest)
+unfolding writeFile
+writeFile-length f = omega (
+  arith,
+  length-append (bytes 8 (f .number) ++ bytes 8 (f .size) ++ writeKey (f .smallest)) (writeKey (f .largest)),
+  length-append (bytes 8 (f .number) ++ bytes 8 (f .size)) (writeKey (f .smallest)),
+  length-append (bytes 8 (f .number)) (bytes 8 (f .size)),
+  bytes-length 8 (f .number),
+  bytes-length 8 (f .size),
+  writeKey-length (f .smallest),
+  writeKey-length (f .largest),
+)
+
+file-most : (p : Profile) (f : File) → goodFile p f ≡ true → length (writeFile f) ≤ 2 * p .longest + 34
+file-most p f g = let k = file-facts p f g in omega (arith, writeFile-length f, k .smallest, k .largest)
+
+-- a pointer: two bytes and its key
+pub writeEntry-length : (e : Entry) → length (writeEntry e) ≡ 2 + length (e .key)
+unfolding writeEntry
+writeEntry-length e = omega (arith, length-append (bytes 1 (e .level)) (writeKey (e .key)), bytes-length 1 (e .level), writeKey-length (e .key))
+
+entry-most : (p : Profile) (e : Entry) → goodKey (p .longest) (e .key) ≡ true → length (writeEntry e) ≤ p .longest + 10
+entry-most p e g = omega (arith, writeEntry-length e, goodKey-says (p .longest) (e .key) .0 g .few-bytes)
+
+-- files of all levels
+held-most : (p : Profile) (s : State) → WF p s → sum (map (λ l. length (level s l)) (upFrom 0 7)) ≤ p .room
+unfolding level
+held-most p s w = omega (arith, stretch-few (s .files) 0 7, w .room)
+
+-- pointers that are set
+set-most : (p : Profile) (s : State) → WF p s → length (entries 0 (s .pointers)) ≤ p .levels
+set-most p s w = omega (arith, entries-few 0 (s .pointers), w .pointer-levels)
+
+-- levels from k on
+levels-most : (p : Profile) (s : State) → WF p s → (k n : ℕ)
+    → length (join (map (λ l. writeLevel (level s l)) (upFrom k n))) ≤ n * 2 + sum (map (λ l. length (level s l)) (upFrom k n)) * (2 * p .longest + 34)
+unfolding writeLevel join upFrom sum level
+levels-most p s w k zero = omega arith
+levels-most p s w k (suc n) =
+    let c = 2 * p .longest + 34 in
+    let fs = getD (s .files) k [] in
+    let a = section-most writeFile c (sort byNumber fs) (λ f m. file-most p f (w .good f (join-in (s .files) k f (sort-in byNumber fs f .0 m)))) in
+    let b = levels-most p s w (suc k) n in
+    let e : length (sort byNumber fs) * c ≡ length fs * c = ap (λ (x : ℕ). x * c) (sort-length byNumber fs) in
+    let r = join (map (λ l. section writeFile (sort byNumber (getD (s .files) l []))) (upFrom (suc k) n)) in
+    let d : (length fs + sum (map (λ l. length (getD (s .files) l [])) (upFrom (suc k) n))) * c ≡ length fs * c + sum (map (λ l. length (getD (s .files) l [])) (upFrom (suc k) n)) * c
+    = add-mul (length fs) (sum (map (λ l. length (getD (s .files) l [])) (upFrom (suc k) n))) c in
+    omega (arith, length-append (section writeFile (sort byNumber fs)) r)
+
+-- a bound on the length of a snapshot
+pub encode-length : (p : Profile) (s : State) → WF p s → length (encode s) ≤ 58 + p .levels * (p .longest + 10) + p .room * (2 * p .longest + 34)
+unfolding encode goodPointer fiveOf
+encode-length p s w =
+    let es = entries 0 (s .pointers) in
+    let lv = join (map (λ l. writeLevel (level s l)) (upFrom 0 7)) in
+    let five = section-most (bytes 8) 8 (fiveOf (s .counters)) (λ n m. omega (arith, bytes-length 8 n)) in
+    let pointers = section-most writeEntry (p .longest + 10) es (λ e m. entry-most p e (w .pointers (some (e .key)) (entries-among 0 (s .pointers) e m .1))) in
+    let levels = levels-most p s w 0 7 in
+    let held = mul-le-mul-right (2 * p .longest + 34) (held-most p s w) in
+    let set = mul-le-mul-right (p .longest + 10) (set-most p s w) in
+    omega (arith, length-append (section (bytes 8) (fiveOf (s .counters)) ++ section writeEntry es) lv, length-append (section (bytes 8) (fiveOf (s .counters))) (section writeEntry es))
+
+-- the longest is at most 25440 bytes
+pub encode-most : (s : State) → WF full s → length (encode s) ≤ 25440
+unfolding full
+encode-most s w = encode-length full s w

@@ -1,84 +1,42 @@
--- What the store answers it takes back: a picked answer is a well-formed one, and the cutter keeps its memory well-formed. Assumes nothing.
-use Prim.Native.Nat.{ℕ, zero, suc, _+_, _*_, _-_, _^_, _≤_, _<_}
-use mathlib.Core.Path.{_≡_, refl, sym, _∙_, ap, subst}
-use mathlib.Core.Logic.{_⊎_, inl, inr, _↔_}
-use mathlib.Core.Bool.{Bool, true, false, not, _&&_, _||_, cond}
-use mathlib.Core.List.{List, [], _∷_, _++_, map, List·Memᴰ as In, List·Memᴰ·head as here, List·Memᴰ·tail as there, List·Memᴰ·not-nil as not-nil}
-use mathlib.Core.Option.{Option, none, some}
-use native.Mathlib.Omega.{arith}
+use Prim.Native.Nat.{ℕ, zero, suc, _+_, _*_, _^_, _<_, _≤_}
+use mathlib.Core.Path.{_≡_, refl, ap, _∙_, subst}
+use mathlib.Core.Logic.{_↔_}
+use mathlib.Core.Bool.{Bool, cond, true, false, not, _&&_, _||_}
+use mathlib.Core.List.{List, [], _∷_, _++_, List·Memᴰ as In}
+use borrow.Author.Tests.{eqb-true, eq-eqb, ltb-true, ltb-false, lt-ltb, leb-true, le-leb, not-true, eqb-false}
 use lib.Dec.{eqb, ltb, leb}
-use lib.ListN.{length, getD, take, drop, length-append, length-drop, drop-of-length-le}
+use lib.ListN.{length, getD, length-append, take, drop, length-drop, drop-of-length-le}
 use lib.Seq.{take-add, drop-append-le, length-take-le}
-use lib.Arith.{lt-of-le-ne}
-use borrow.Author.Tests.{ltb-true, ltb-false, lt-ltb, le-leb, leb-true, eqb-true, eqb-false, eq-eqb, not-true, not-false}
-use Rattle.lemmas.specs.Order.{StrictWeak, clash, le-lt, on-order}
+use native.Mathlib.Omega.{arith}
+use Rattle.lemmas.specs.Order.{clash, le-lt}
+use Rattle.lemmas.specs.Lists.{any, all, chain, join, isEmpty, member, distinct, sum, upFrom}
+use Rattle.lemmas.specs.ListLaws.{and-left, and-right, both, all-in, join-in, join-length, any-in, or-right, upFrom-any, Sub, end, skip, also, sub-in, sub-length, sub-chain}
 use Rattle.model.specs.Key.{Key, before, before-order}
-use Rattle.lemmas.specs.Lists.{push, keep, join, chain, isEmpty, member, any, all, distinct, upFrom, sum}
-use Rattle.model.specs.Answer.{Answer, gives}
-use Rattle.lemmas.specs.ListLaws.{and-left, and-right, both, all-in, join-in}
-use Rattle.model.specs.File.{Profile, File, State, level, pointer, numbers, total, goodFile, bySmallest, inOrder, levelwise}
-use Rattle.model.specs.Compact.{Cause, bySize, manual, Pick, Picked, Range, score, levelToCompact, overlaps, widen, overlapping, rangeOf, between, orFirst, startFile, sizeInputs, upTo, manualInputs, grandOf, grows, grownFirst, complete, badMaximum, sizePick, manualPick}
-use Rattle.model.specs.Rest.{goodLevel, goodPicked, Cutter, Cut, passed, cutStep}
+use Rattle.model.specs.Answer.{gives}
+use Rattle.model.specs.File.{Profile, File, State, level, pointer, total, numbers, bySmallest, goodFile, inOrder, levelwise}
+use Rattle.model.specs.Score.{score, levelToCompact, reported}
+use Rattle.model.specs.Range.{Range, between, overlapping, rangeOf}
+use Rattle.model.specs.Pick.{sizeInputs, manualInputs, Cause, bySize, manual, Picked, Pick, grandOf, grownFirst, complete, badMaximum, sizePick, manualPick, goodLevel, goodPicked}
+use Rattle.model.specs.Question.{passed, Cutter, cutStep}
 use Rattle.model.specs.Calls.{counts-up-to, goodCutter}
-use Rattle.model.specs.HistoryLaws.{distinct-level, size-accepted, range-accepted}
-use Rattle.model.specs.Formed.{WF, formed-says}
-use Rattle.model.specs.Picks.{goodFile-order, grown-nonempty, size-nonempty, due-nonempty}
-use Rattle.model.specs.Scores.{level-is}
+use Rattle.model.specs.Formed.{WF, formed-says, goodFile-order, distinct-level}
+use Rattle.model.specs.ScoreLaws.{level-is}
+use Rattle.model.specs.PickLaws.{size-accepted, range-accepted, overlapping-sub, size-sub, manual-sub, grown-sub, due-nonempty, size-nonempty, grown-nonempty}
 
--- ---- a list with some files left out
-pub data Sub : List File → List File → Type 0 where
-  end : Sub [] []
-  skip : {y : File} {xs ys : List File} → Sub xs ys → Sub xs (y ∷ ys)
-  also : {y : File} {xs ys : List File} → Sub xs ys → Sub (y ∷ xs) (y ∷ ys)
+-- What the store answers it takes back: a picked answer is well-formed, and the cutter keeps its memory well-formed. Assumes nothing.
 
-sub-none : (ys : List File) → Sub [] ys
-sub-none [] = end
-sub-none (y ∷ ys) = skip (sub-none ys)
-
-sub-all : (ys : List File) → Sub ys ys
-sub-all [] = end
-sub-all (y ∷ ys) = also (sub-all ys)
-
-sub-keep : (q : File → Bool) (ys : List File) → Sub (keep q ys) ys
-unfolding keep push
-sub-keep q [] = end
-sub-keep q (y ∷ ys) = go (sub-keep q ys) (q y)
-  where
-    go : Sub (keep q ys) ys → (t : Bool) → Sub (push t y (keep q ys)) (y ∷ ys)
-    go ih true = also ih
-    go ih false = skip ih
-
-sub-trans : {xs ys zs : List File} → Sub xs ys → Sub ys zs → Sub xs zs
-sub-trans s end = s
-sub-trans s (skip t) = skip (sub-trans s t)
-sub-trans (skip s) (also t) = skip (sub-trans s t)
-sub-trans (also s) (also t) = also (sub-trans s t)
-
-pub sub-in : {xs ys : List File} (f : File) → Sub xs ys → In f xs → In f ys
-sub-in f end m = m
-sub-in f (skip s) m = there (sub-in f s m)
-sub-in f (also s) (here e) = here e
-sub-in f (also s) (there m) = there (sub-in f s m)
-
-pub sub-length : {xs ys : List File} → Sub xs ys → length xs ≤ length ys
-sub-length end = omega arith
-sub-length (skip s) = omega (arith, sub-length s)
-sub-length (also s) = omega (arith, sub-length s)
-
+-- a number not in a list is in no part of it
 sub-member : {xs ys : List File} (n : ℕ) → Sub xs ys → member n (numbers ys) ≡ false → member n (numbers xs) ≡ false
 unfolding member any numbers
 sub-member n end h = h
 sub-member n (skip {y = y} {ys = ys} s) h = sub-member n s (or-right (eqb (y .number) n) (any (λ m. eqb m n) (numbers ys)) h)
-  where
-    or-right : (a b : Bool) → (a || b) ≡ false → b ≡ false
-    or-right true b e = clash refl e
-    or-right false b e = e
 sub-member n (also {y = y} {xs = xs} {ys = ys} s) h = go (sub-member n s) (eqb (y .number) n) refl
   where
     go : (member n (numbers ys) ≡ false → member n (numbers xs) ≡ false) → (t : Bool) → eqb (y .number) n ≡ t → (eqb (y .number) n || any (λ m. eqb m n) (numbers xs)) ≡ false
     go ih true e = clash (rw e) h
     go ih false e = rw e (ih (rw e at h))
 
+-- a part repeats no number
 pub sub-distinct : {xs ys : List File} → Sub xs ys → distinct (numbers ys) ≡ true → distinct (numbers xs) ≡ true
 unfolding distinct numbers
 sub-distinct end h = h
@@ -87,53 +45,23 @@ sub-distinct (also {y = y} {xs = xs} {ys = ys} s) h =
     let a = not-true (member (y .number) (numbers ys)) (and-left (not (member (y .number) (numbers ys))) (distinct (numbers ys)) h) in
     both (not (member (y .number) (numbers xs))) (distinct (numbers xs)) (rw (sub-member (y .number) s a)) (sub-distinct s (and-right (not (member (y .number) (numbers ys))) (distinct (numbers ys)) h))
 
--- ---- neighbours of a list with some left out
-module _ (r : File → File → Bool) (Good : File → Type 0) (through : (f g h : File) → Good g → r f g ≡ true → r g h ≡ true → r f h ≡ true) where
-  chain-rest : (x : File) (xs : List File) → chain r (x ∷ xs) ≡ true → chain r xs ≡ true
-  unfolding chain
-  chain-rest x [] c = refl
-  chain-rest x (y ∷ ys) c = and-right (r x y) (chain r (y ∷ ys)) c
-
-  chain-first : (x y : File) (xs : List File) → ((f : File) → In f xs → Good f) → chain r (x ∷ xs) ≡ true → In y xs → r x y ≡ true
-  unfolding chain
-  chain-first x y [] g c m = absurd (not-nil m)
-  chain-first x y (z ∷ zs) g c m = go (chain-first z y zs (λ f i. g f (there i)) (and-right (r x z) (chain r (z ∷ zs)) c)) m
-    where
-      step : r x z ≡ true
-      step = and-left (r x z) (chain r (z ∷ zs)) c
-
-      go : (In y zs → r z y ≡ true) → In y (z ∷ zs) → r x y ≡ true
-      go ih (here e) = subst (λ (f : File). r x f ≡ true) (sym e) step
-      go ih (there k) = through x z y (g z (here refl)) step (ih k)
-
-  chain-cons : (y : File) (zs : List File) → chain r zs ≡ true → ((f : File) → In f zs → r y f ≡ true) → chain r (y ∷ zs) ≡ true
-  unfolding chain
-  chain-cons y [] c h = refl
-  chain-cons y (z ∷ zs) c h = both (r y z) (chain r (z ∷ zs)) (h z (here refl)) c
-
-  sub-chain : {xs ys : List File} → ((f : File) → In f ys → Good f) → Sub xs ys → chain r ys ≡ true → chain r xs ≡ true
-  sub-chain g end c = c
-  sub-chain g (skip {y = y} {ys = ys} s) c = sub-chain (λ f i. g f (there i)) s (chain-rest y ys c)
-  sub-chain g (also {y = y} {xs = xs} {ys = ys} s) c = go xs s (sub-chain (λ f i. g f (there i)) s (chain-rest y ys c))
-    where
-      go : (zs : List File) → Sub zs ys → chain r zs ≡ true → chain r (y ∷ zs) ≡ true
-      go zs s c′ = chain-cons y zs c′ (λ f i. chain-first y f ys (λ f i. g f (there i)) c (sub-in f s i))
-
+-- a part of a level in order is in order
 pub sub-ordered : (l : ℕ) {xs ys : List File} → ((f : File) → In f ys → before (f .largest) (f .smallest) ≡ false) → Sub xs ys → inOrder l ys ≡ true → inOrder l xs ≡ true
 unfolding inOrder bySmallest
-sub-ordered zero g s c = sub-chain (λ f g. not (before (g .smallest) (f .smallest))) (λ f. before (f .largest) (f .smallest) ≡ false)
+sub-ordered zero g s c = sub-chain (λ (f g : File). not (before (g .smallest) (f .smallest))) (λ f. before (f .largest) (f .smallest) ≡ false)
     (λ f g h i a b. rw (before-order .ntrans (h .smallest) (g .smallest) (f .smallest) (not-true (before (h .smallest) (g .smallest)) b) (not-true (before (g .smallest) (f .smallest)) a))) g s c
-sub-ordered (suc l) g s c = sub-chain (λ f g. before (f .largest) (g .smallest)) (λ f. before (f .largest) (f .smallest) ≡ false)
+sub-ordered (suc l) g s c = sub-chain (λ (f g : File). before (f .largest) (g .smallest)) (λ f. before (f .largest) (f .smallest) ≡ false)
     (λ f g h i a b. before-order .trans (f .largest) (g .smallest) (h .smallest) a (le-lt before before-order (g .smallest) (g .largest) (h .smallest) i b)) g s c
 
 -- ---- a part of a level of a well-formed state is a well-formed level
-levelwise-at : (p : ℕ → List File → Bool) (k : ℕ) (fss : List (List File)) (i : ℕ) → i < length fss → levelwise p k fss ≡ true → p (k + i) (getD fss i []) ≡ true
+pub levelwise-at : (p : ℕ → List File → Bool) (k : ℕ) (fss : List (List File)) (i : ℕ) → i < length fss → levelwise p k fss ≡ true → p (k + i) (getD fss i []) ≡ true
 unfolding levelwise
 levelwise-at p k [] i h c = absurd (omega arith)
 levelwise-at p k (fs ∷ fss) zero h c = let e : k ≡ k + 0 = omega arith in subst (λ (n : ℕ). p n fs ≡ true) e (and-left (p k fs) (levelwise p (suc k) fss) c)
 levelwise-at p k (fs ∷ fss) (suc i) h c = let e : suc k + i ≡ k + suc i = omega arith in
     subst (λ (n : ℕ). p n (getD fss i []) ≡ true) e (levelwise-at p (suc k) fss i (omega arith) (and-right (p k fs) (levelwise p (suc k) fss) c))
 
+-- three levels hold no more files than there are
 three-levels : (fss : List (List File)) (l : ℕ) → length (getD fss l []) + length (getD fss (suc l) []) + length (getD fss (suc (suc l)) []) ≤ length (join fss)
 unfolding join
 three-levels [] zero = omega arith
@@ -149,86 +77,66 @@ three-levels (fs ∷ fss) zero = omega (arith, length-append fs (join fss), two-
     two-levels [] = omega arith
     two-levels (g ∷ gs) = omega (arith, length-append g (join gs), first gs)
 
-one-level : (fss : List (List File)) (l : ℕ) → length (getD fss l []) ≤ length (join fss)
-one-level fss l = omega (arith, three-levels fss l)
+-- a list of one level that is well-formed, part by part
+pub record GoodLevel (p : Profile) (l : ℕ) (fs : List File) : Type 0 where
+  pub good : (f : File) → In f fs → goodFile p f ≡ true
+  pub words : (f : File) → In f fs → f .number < 2 ^ 64
+  pub distinct-numbers : distinct (numbers fs) ≡ true
+  pub room : length fs ≤ p .room
+  pub ordered : inOrder l fs ≡ true
 
+-- the test says just that
+pub goodLevel-says : (p : Profile) (l : ℕ) (fs : List File) → goodLevel p l fs ≡ true ↔ GoodLevel p l fs
+unfolding goodLevel
+goodLevel-says p l fs =
+    let a = all (λ f. goodFile p f && ltb (f .number) (2 ^ 64)) fs in
+    let b = distinct (numbers fs) in
+    let c = leb (length fs) (p .room) in
+    let o = inOrder l fs in (
+      λ h.
+          let abc = and-left (a && b && c) o h in
+          let ab = and-left (a && b) c abc in
+          let each = all-in (λ f. goodFile p f && ltb (f .number) (2 ^ 64)) fs .0 (and-left a b ab) in
+          record {
+            good = λ f m. and-left (goodFile p f) (ltb (f .number) (2 ^ 64)) (each f m);
+            words = λ f m. ltb-true (f .number) (2 ^ 64) (and-right (goodFile p f) (ltb (f .number) (2 ^ 64)) (each f m));
+            distinct-numbers = and-right a b ab;
+            room = leb-true (length fs) (p .room) (and-right (a && b) c abc);
+            ordered = and-right (a && b && c) o h;
+          },
+      λ g. both (a && b && c) o (both (a && b) c (both a b
+          (all-in (λ f. goodFile p f && ltb (f .number) (2 ^ 64)) fs .1 (λ f m. both (goodFile p f) (ltb (f .number) (2 ^ 64)) (g .good f m) (lt-ltb (f .number) (2 ^ 64) (g .words f m))))
+          (g .distinct-numbers)) (le-leb (length fs) (p .room) (g .room))) (g .ordered),
+    )
+
+-- a part of a level of a well-formed state is a well-formed level
 pub part-good : (p : Profile) (s : State) (l : ℕ) (xs : List File) → WF p s → l < p .levels → Sub xs (level s l) → goodLevel p l xs ≡ true
-unfolding goodLevel level
+unfolding level
 part-good p s l xs w h sub =
     let fs = getD (s .files) l [] in
     let up : (f : File) → In f xs → In f (join (s .files)) = λ f m. join-in (s .files) l f (sub-in f sub m) in
-    let a = all (λ f. goodFile p f && ltb (f .number) (2 ^ 64)) xs in
-    let b = distinct (numbers xs) in
-    let c = leb (length xs) (p .room) in
     let ordered : inOrder l fs ≡ true = let e : 0 + l ≡ l = omega arith in subst (λ (n : ℕ). inOrder n fs ≡ true) e (levelwise-at inOrder 0 (s .files) l (omega (arith, w .levels)) (w .ordered)) in
-    both (a && b && c) (inOrder l xs) (both (a && b) c (both a b
-    (all-in (λ f. goodFile p f && ltb (f .number) (2 ^ 64)) xs .1 (λ f m. both (goodFile p f) (ltb (f .number) (2 ^ 64)) (w .good f (up f m)) (lt-ltb (f .number) (2 ^ 64) (w .words f (up f m)))))
-    (sub-distinct sub (distinct-level (s .files) l (w .distinct-numbers))))
-    (le-leb (length xs) (p .room) (omega (arith, sub-length sub, one-level (s .files) l, w .room))))
-    (sub-ordered l (λ f m. goodFile-order p f (w .good f (join-in (s .files) l f m))) sub ordered)
+    goodLevel-says p l xs .1 record {
+      good = λ f m. w .good f (up f m);
+      words = λ f m. w .words f (up f m);
+      distinct-numbers = sub-distinct sub (distinct-level (s .files) l (w .distinct-numbers));
+      room = omega (arith, sub-length sub, join-length (s .files) l, w .room);
+      ordered = sub-ordered l (λ f m. goodFile-order p f (w .good f (join-in (s .files) l f m))) sub ordered;
+    }
 
--- ---- every list of a pick is a part of its level
-overlapping-sub : (l : ℕ) (fs : List File) (r : Range) → Sub (overlapping l fs r) fs
-unfolding overlapping
-overlapping-sub zero fs r = sub-keep (overlaps (widen fs r)) fs
-overlapping-sub (suc l) fs r = sub-keep (overlaps r) fs
-
-upTo-sub : (m t : ℕ) (fs : List File) → Sub (upTo m t fs) fs
-unfolding upTo
-upTo-sub m t [] = end
-upTo-sub m t (f ∷ fs) = also (go (upTo-sub m (t + f .size) fs) (ltb m (t + f .size)))
-  where
-    go : Sub (upTo m (t + f .size) fs) fs → (b : Bool) → Sub (cond b [] (upTo m (t + f .size) fs)) fs
-    go ih true = sub-none fs
-    go ih false = ih
-
-first-sub : (fs : List File) → Sub (take 1 fs) fs
-first-sub [] = end
-first-sub (f ∷ fs) = also (sub-none fs)
-
-start-sub : (o : Option Key) (fs : List File) → Sub (startFile o fs) fs
-unfolding startFile orFirst
-start-sub none fs = first-sub fs
-start-sub (some k) fs = go (keep (λ f. before k (f .largest)) fs) (sub-keep (λ f. before k (f .largest)) fs)
-  where
-    go : (gs : List File) → Sub gs fs → Sub (orFirst gs fs) fs
-    go [] s = first-sub fs
-    go (g ∷ gs) s = sub-trans (also (sub-none gs)) s
-
-size-sub : (l : ℕ) (o : Option Key) (fs : List File) → Sub (sizeInputs l o fs) fs
-unfolding sizeInputs
-size-sub zero o fs = overlapping-sub 0 fs (rangeOf (startFile o fs))
-size-sub (suc l) o fs = start-sub o fs
-
-manual-sub : (m l : ℕ) (fs : List File) (r : Range) → Sub (manualInputs m l fs r) fs
-unfolding manualInputs
-manual-sub m zero fs r = overlapping-sub 0 fs r
-manual-sub m (suc l) fs r = sub-trans (upTo-sub m 0 (overlapping (suc l) fs r)) (overlapping-sub (suc l) fs r)
-
-grown-sub : (s : State) (m l : ℕ) (first second : List File) → Sub first (level s l) → Sub (grownFirst s m l first second) (level s l)
-unfolding grownFirst
-grown-sub s m l first second h = go (grows m first second grown again)
-  where
-    grown : List File
-    grown = overlapping l (level s l) (rangeOf (first ++ second))
-
-    again : List File
-    again = overlapping (suc l) (level s (suc l)) (rangeOf grown)
-
-    go : (b : Bool) → Sub (cond b grown first) (level s l)
-    go true = overlapping-sub l (level s l) (rangeOf (first ++ second))
-    go false = h
-
+-- what is asked of grandparents
 record Grand (p : Profile) (s : State) (l : ℕ) (gs : List File) : Type 0 where
   room-for : (ltb (l + 2) (p .levels) || isEmpty gs) ≡ true
   good : goodLevel p (l + 2) gs ≡ true
   few : length gs ≤ length (getD (s .files) (suc (suc l)) [])
 
+-- no files are a well-formed level
 empty-good : (p : Profile) (l : ℕ) → goodLevel p l [] ≡ true
 unfolding goodLevel all distinct numbers inOrder chain
 empty-good p zero = both (leb 0 (p .room)) true (le-leb 0 (p .room) (omega arith)) refl
 empty-good p (suc l) = both (leb 0 (p .room)) true (le-leb 0 (p .room) (omega arith)) refl
 
+-- grandparents of a pick are as asked
 grand-is : (p : Profile) (s : State) (l : ℕ) (r : Range) → WF p s → Grand p s l (grandOf p s l r)
 unfolding grandOf level isEmpty
 grand-is p s l r w = go (ltb (l + 2) (p .levels)) refl
@@ -245,28 +153,71 @@ grand-is p s l r w = go (ltb (l + 2) (p .levels)) refl
     }
     go false e = record { room-for = or-empty (ltb (l + 2) (p .levels)); good = empty-good p (l + 2); few = omega arith }
 
+-- a picked answer that is well-formed, part by part
+pub record GoodPicked (p : Profile) (c : Picked) : Type 0 where
+  pub level : suc (c .level) < p .levels
+  pub maximum : badMaximum (c .maximum) ≡ false
+  pub some-input : isEmpty (c .first) ≡ false
+  pub no-grand : (ltb (c .level + 2) (p .levels) || isEmpty (c .grand)) ≡ true
+  pub first : goodLevel p (c .level) (c .first) ≡ true
+  pub second : goodLevel p (suc (c .level)) (c .second) ≡ true
+  pub grand : goodLevel p (c .level + 2) (c .grand) ≡ true
+  pub room : length (c .first) + length (c .second) + length (c .grand) ≤ p .room
+
+-- the test says just that
+pub goodPicked-says : (p : Profile) (c : Picked) → goodPicked p c ≡ true ↔ GoodPicked p c
+unfolding goodPicked
+goodPicked-says p c =
+    let t₁ = ltb (suc (c .level)) (p .levels) in
+    let t₂ = not (badMaximum (c .maximum)) in
+    let t₃ = not (isEmpty (c .first)) in
+    let t₄ = ltb (c .level + 2) (p .levels) || isEmpty (c .grand) in
+    let t₅ = goodLevel p (c .level) (c .first) in
+    let t₆ = goodLevel p (suc (c .level)) (c .second) in
+    let t₇ = goodLevel p (c .level + 2) (c .grand) in
+    let n = length (c .first) + length (c .second) + length (c .grand) in
+    let t₈ = leb n (p .room) in (
+      λ h.
+          let s₇ = and-left (t₁ && t₂ && t₃ && t₄ && t₅ && t₆ && t₇) t₈ h in
+          let s₆ = and-left (t₁ && t₂ && t₃ && t₄ && t₅ && t₆) t₇ s₇ in
+          let s₅ = and-left (t₁ && t₂ && t₃ && t₄ && t₅) t₆ s₆ in
+          let s₄ = and-left (t₁ && t₂ && t₃ && t₄) t₅ s₅ in
+          let s₃ = and-left (t₁ && t₂ && t₃) t₄ s₄ in
+          let s₂ = and-left (t₁ && t₂) t₃ s₃ in
+          record {
+            level = ltb-true (suc (c .level)) (p .levels) (and-left t₁ t₂ s₂);
+            maximum = not-true (badMaximum (c .maximum)) (and-right t₁ t₂ s₂);
+            some-input = not-true (isEmpty (c .first)) (and-right (t₁ && t₂) t₃ s₃);
+            no-grand = and-right (t₁ && t₂ && t₃) t₄ s₄;
+            first = and-right (t₁ && t₂ && t₃ && t₄) t₅ s₅;
+            second = and-right (t₁ && t₂ && t₃ && t₄ && t₅) t₆ s₆;
+            grand = and-right (t₁ && t₂ && t₃ && t₄ && t₅ && t₆) t₇ s₇;
+            room = leb-true n (p .room) (and-right (t₁ && t₂ && t₃ && t₄ && t₅ && t₆ && t₇) t₈ h);
+          },
+      λ g. both (t₁ && t₂ && t₃ && t₄ && t₅ && t₆ && t₇) t₈ (both (t₁ && t₂ && t₃ && t₄ && t₅ && t₆) t₇ (both (t₁ && t₂ && t₃ && t₄ && t₅) t₆ (both (t₁ && t₂ && t₃ && t₄) t₅ (both (t₁ && t₂ && t₃) t₄ (both (t₁ && t₂) t₃ (both t₁ t₂
+          (lt-ltb (suc (c .level)) (p .levels) (g .level)) (rw (g .maximum))) (rw (g .some-input))) (g .no-grand)) (g .first)) (g .second)) (g .grand)) (le-leb n (p .room) (g .room)),
+    )
+
+-- the answer of a pick is well-formed
 pub complete-good : (p : Profile) (s : State) (m : ℕ) (c : Cause) (l : ℕ) (first : List File) → WF p s → suc l < p .levels → badMaximum m ≡ false
     → Sub first (level s l) → isEmpty first ≡ false → goodPicked p (complete p s m c l first .picked) ≡ true
-unfolding complete goodPicked level
+unfolding complete level
 complete-good p s m c l first w h bm sub ne =
     let second = overlapping (suc l) (level s (suc l)) (rangeOf first) in
     let first′ = grownFirst s m l first second in
-    let grand = grandOf p s l (rangeOf (first′ ++ second)) in
     let sub₁ = grown-sub s m l first second sub in
     let sub₂ = overlapping-sub (suc l) (level s (suc l)) (rangeOf first) in
     let g = grand-is p s l (rangeOf (first′ ++ second)) w in
-    let t₁ = ltb (suc l) (p .levels) in
-    let t₂ = not (badMaximum m) in
-    let t₃ = not (isEmpty first′) in
-    let t₄ = ltb (l + 2) (p .levels) || isEmpty grand in
-    let t₅ = goodLevel p l first′ in
-    let t₆ = goodLevel p (suc l) second in
-    let t₇ = goodLevel p (l + 2) grand in
-    let t₈ = leb (length first′ + length second + length grand) (p .room) in
-    both (t₁ && t₂ && t₃ && t₄ && t₅ && t₆ && t₇) t₈ (both (t₁ && t₂ && t₃ && t₄ && t₅ && t₆) t₇ (both (t₁ && t₂ && t₃ && t₄ && t₅) t₆ (both (t₁ && t₂ && t₃ && t₄) t₅ (both (t₁ && t₂ && t₃) t₄ (both (t₁ && t₂) t₃ (both t₁ t₂
-    (lt-ltb (suc l) (p .levels) h) (rw bm)) (rw (grown-nonempty s m l first second ne))) (g .room-for))
-    (part-good p s l first′ w (omega arith) sub₁)) (part-good p s (suc l) second w h sub₂)) (g .good))
-    (le-leb (length first′ + length second + length grand) (p .room) (omega (arith, sub-length sub₁, sub-length sub₂, g .few, three-levels (s .files) l, w .room)))
+    goodPicked-says p (complete p s m c l first .picked) .1 record {
+      level = h;
+      maximum = bm;
+      some-input = grown-nonempty s m l first second ne;
+      no-grand = g .room-for;
+      first = part-good p s l first′ w (omega arith) sub₁;
+      second = part-good p s (suc l) second w h sub₂;
+      grand = g .good;
+      room = omega (arith, sub-length sub₁, sub-length sub₂, g .few, three-levels (s .files) l, w .room);
+    }
 
 -- a picked answer is well-formed
 pub size-good : (p : Profile) (s : State) (m : ℕ) (k : Pick) → 2 ≤ p .levels → sizePick p s m ≡ gives k → goodPicked p (k .picked) ≡ true
@@ -277,9 +228,10 @@ size-good p s m k two h =
     let l = levelToCompact p s in
     let some-file = due-nonempty s l (a .is-due) in
     subst (λ (x : Pick). goodPicked p (x .picked) ≡ true) (a .result)
-    (complete-good p s m (bySize (score s l)) l (sizeInputs l (pointer s l) (level s l)) w (omega (arith, level-is p s two .among)) (a .maximum)
+    (complete-good p s m (bySize (reported (score s l))) l (sizeInputs l (pointer s l) (level s l)) w (omega (arith, level-is p s two .among)) (a .maximum)
     (size-sub l (pointer s l) (level s l)) (size-nonempty p l (pointer s l) (level s l) (λ f i. w .good f (join-in (s .files) l f i)) some-file))
 
+-- of a manual pick
 pub range-good : (p : Profile) (s : State) (m l : ℕ) (a b : Key) (k : Pick) → manualPick p s m l a b ≡ gives k → goodPicked p (k .picked) ≡ true
 range-good p s m l a b k h =
     let r = range-accepted p s m l a b k h in
@@ -291,42 +243,20 @@ range-good p s m l a b k h =
     under : l < p .levels → (suc l ≡ p .levels → ⊥) → suc l < p .levels
     under i n = omega arith
 
--- ---- the cutter keeps its memory well-formed
-upFrom-any : (q : ℕ → Bool) (k n j : ℕ) → k ≤ j → j < k + n → q j ≡ true → any q (upFrom k n) ≡ true
-unfolding upFrom any
-upFrom-any q k zero j a b h = absurd (omega arith)
-upFrom-any q k (suc n) j a b h = go (upFrom-any q (suc k) n j) (eqb k j) refl
-  where
-    or-true : (x y : Bool) → y ≡ true → (x || y) ≡ true
-    or-true true y e = refl
-    or-true false y e = e
-
-    go : (suc k ≤ j → j < suc k + n → q j ≡ true → any q (upFrom (suc k) n) ≡ true) → (t : Bool) → eqb k j ≡ t → (q k || any q (upFrom (suc k) n)) ≡ true
-    go ih true e = let i : q k ≡ true = rw (eqb-true k j e) h in rw i
-    go ih false e = let n′ = eqb-false k j e in or-true (q k) (any q (upFrom (suc k) n)) (ih (lt-of-le-ne a n′) (omega arith) h)
-
-any-upFrom : (q : ℕ → Bool) (k n : ℕ) → any q (upFrom k n) ≡ true → (j : ℕ) × (q j ≡ true)
-unfolding upFrom any
-any-upFrom q k zero h = clash h refl
-any-upFrom q k (suc n) h = go (any-upFrom q (suc k) n) (q k) refl
-  where
-    go : (any q (upFrom (suc k) n) ≡ true → (j : ℕ) × (q j ≡ true)) → (t : Bool) → q k ≡ t → (j : ℕ) × (q j ≡ true)
-    go ih true e = (k, e)
-    go ih false e = ih (rw e at h)
-
 -- a count of the bytes from some place up to this one
 record Run (gs : List File) (place count : ℕ) : Type 0 where
   from : ℕ
   early : from ≤ place
   is : total (drop from (take place gs)) ≡ count
 
+-- the test says just that
 run-says : (gs : List File) (place count : ℕ) → counts-up-to gs place count ≡ true ↔ Run gs place count
 unfolding counts-up-to
 run-says gs place count = (
-  λ h. let w = any-upFrom test 0 (suc place) h in
+  λ h. let w = any-in test (upFrom 0 (suc place)) h in
       let a = leb (w .0) place in
       let b = eqb (total (drop (w .0) (take place gs))) count in
-      record { from = w .0; early = leb-true (w .0) place (and-left a b (w .1)); is = eqb-true (total (drop (w .0) (take place gs))) count (and-right a b (w .1)) },
+      record { from = w .0; early = leb-true (w .0) place (and-left a b (w .2)); is = eqb-true (total (drop (w .0) (take place gs))) count (and-right a b (w .2)) },
   λ r. upFrom-any test 0 (suc place) (r .from) (omega arith) (omega (arith, r .early))
       (both (leb (r .from) place) (eqb (total (drop (r .from) (take place gs))) count) (le-leb (r .from) place (r .early)) (eq-eqb (total (drop (r .from) (take place gs))) count (r .is))),
 )
@@ -334,11 +264,13 @@ run-says gs place count = (
     test : ℕ → Bool
     test j = leb j place && eqb (total (drop j (take place gs))) count
 
+-- bytes of two lists joined
 total-append : (xs ys : List File) → total (xs ++ ys) ≡ total xs + total ys
 unfolding total sum
 total-append [] ys = omega arith
 total-append (x ∷ xs) ys = omega (arith, total-append xs ys)
 
+-- a run goes on over the files passed
 run-on : (gs : List File) (place n count : ℕ) → place ≤ length gs → Run gs place count → Run gs (place + n) (count + total (take n (drop place gs)))
 run-on gs place n count h r = record {
   from = r .from;
@@ -350,6 +282,7 @@ run-on gs place n count h r = record {
       ap (λ (xs : List File). total (drop (r .from) xs)) e ∙ ap total f ∙ total-append (drop (r .from) (take place gs)) (take n (drop place gs)) ∙ ap (λ (c : ℕ). c + total (take n (drop place gs))) (r .is);
 }
 
+-- a run of nothing
 run-none : (gs : List File) (place : ℕ) → place ≤ length gs → Run gs place 0
 unfolding total sum
 run-none gs place h = record {
@@ -358,6 +291,7 @@ run-none gs place h = record {
   is = let e : drop place (take place gs) ≡ [] = drop-of-length-le (take place gs) {i = place} (omega (arith, length-take-le place gs h)) in ap total e;
 }
 
+-- no more are passed than there are
 passed-few : (k : Key) (gs : List File) → passed k gs ≤ length gs
 unfolding passed
 passed-few k [] = omega arith
@@ -374,6 +308,7 @@ record Memory (c : Picked) (m : Cutter) : Type 0 where
   run : Run (c .grand) (m .place) (m .count)
   unseen : m .seen ≡ false → m .count ≡ 0
 
+-- a good memory says just that
 memory-says : (c : Picked) (m : Cutter) → goodCutter c m ≡ true → Memory c m
 unfolding goodCutter
 memory-says c m h = go (m .seen) refl
@@ -409,10 +344,12 @@ step-run c m n t true e o i = run-none (c .grand) (m .place + n) i
 step-run c m n true false e o i = run-on (c .grand) (m .place) n (m .count) (o .place) (o .run)
 step-run c m n false false e o i = let z : 0 ≡ m .count + 0 = omega (arith, o .unseen e) in subst (λ (x : ℕ). Run (c .grand) (m .place + n) x) z (run-none (c .grand) (m .place + n) i)
 
+-- the count after a step is at most 10 M
 step-count : (most x : ℕ) (b : Bool) → ltb most x ≡ b → cond b 0 x ≤ most
 step-count most x true e = omega arith
 step-count most x false e = ltb-false most x e
 
+-- a step keeps a good memory good
 pub cutter-keeps : (c : Picked) (m : Cutter) (k : Key) → goodCutter c m ≡ true → goodCutter c (cutStep (c .maximum) (c .grand) m k .memory) ≡ true
 unfolding goodCutter cutStep
 cutter-keeps c m k h =

@@ -1,0 +1,460 @@
+use Prim.Native.Nat.{ℕ, zero, suc, _+_, _*_, _^_, _≤_}
+use mathlib.Core.Path.{_≡_, refl, sym, _∙_, subst}
+use mathlib.Core.Logic.{_⊎_, inl, inr}
+use mathlib.Core.Bool.{Bool, cond, true, false, not, _&&_}
+use mathlib.Core.List.{List, [], _∷_, _++_, List·Memᴰ as In, List·Memᴰ·head as here, List·Memᴰ·tail as there, List·Memᴰ·not-nil as not-nil, List·Memᴰ·append-cases as append-cases, Memᴰ·append-left as in-left, Option·toList}
+use mathlib.Core.Option.{Option, none, some, orElse}
+use borrow.Author.Tests.{eqb-true, ltb-true, leb-true, not-false}
+use lib.Dec.{eqb, ltb}
+use lib.ListN.{length, length-set}
+use native.Mathlib.Omega.{arith}
+use Rattle.lemmas.specs.Order.{clash}
+use Rattle.lemmas.specs.Lists.{keep, find, isEmpty, sum}
+use Rattle.lemmas.specs.ListLaws.{and-left, and-right, find-some, keep-in, join-in, set-in, Sub, end, also, sub-none, sub-keep, sub-one, sub-trans, sub-in, keep-sub, sub-same, in-nonempty, longer-nonempty}
+use Rattle.model.specs.Key.{Key, goodKey, before, before-order, before-user}
+use Rattle.model.specs.Answer.{gives, _⇒_}
+use Rattle.model.specs.File.{Profile, File, State, level, pointer, total, goodFile, goodPointer, wellFormed, setPointer}
+use Rattle.model.specs.Score.{byteLimit, score, levelToCompact, due, reported}
+use Rattle.model.specs.Range.{Range, between, overlaps, Within, widen, overlapping, lowKey, highKey, rangeOf}
+use Rattle.model.specs.Pick.{firstFile, startFile, sizeInputs, upTo, manualInputs, Cause, bySize, manual, Picked, Pick, grandOf, grows, grownFirst, complete, badMaximum, sizePick, manualPick}
+use Rattle.model.specs.AnswerLaws.{firstOf-gives}
+use Rattle.model.specs.RangeLaws.{overlaps-says, overlaps-mono, widen-least, smallestOf, largestOf, low-fold, high-fold, lowest, highest}
+use Rattle.model.specs.Formed.{WF, formed-says, goodFile-says, goodFile-order}
+use Rattle.model.specs.ScoreLaws.{ten-pow}
+
+-- Laws of picks: what an accepted pick gives, that its inputs are files of their levels, and that it keeps a state well-formed. Assumes nothing.
+
+-- ---- accepted picks and counter calls: what they give
+pub record Sized (p : Profile) (s : State) (m : ℕ) (k : Pick) : Type 0 where
+  pub result : complete p s m (bySize (reported (score s (levelToCompact p s)))) (levelToCompact p s)
+      (sizeInputs (levelToCompact p s) (pointer s (levelToCompact p s)) (level s (levelToCompact p s))) ≡ k
+  pub formed : wellFormed p s ≡ true
+  pub maximum : badMaximum m ≡ false
+  pub is-due : due (score s (levelToCompact p s)) ≡ true
+
+-- what an accepted size pick says
+pub size-accepted : (p : Profile) (s : State) (m : ℕ) (k : Pick) → sizePick p s m ≡ gives k → Sized p s m k
+unfolding sizePick _⇒_
+size-accepted p s m k h =
+    let l = levelToCompact p s in
+    let rs = (not (wellFormed p s) ⇒ 14) ∷ (badMaximum m ⇒ 9) ∷ (not (due (score s l)) ⇒ 10) ∷ [] in
+    let a = firstOf-gives rs (complete p s m (bySize (reported (score s l))) l (sizeInputs l (pointer s l) (level s l))) k h in
+    record {
+      result = a .answer;
+      formed = not-false (wellFormed p s) (a .none-applies (not (wellFormed p s) ⇒ 14) (here refl));
+      maximum = a .none-applies (badMaximum m ⇒ 9) (there (here refl));
+      is-due = not-false (due (score s l)) (a .none-applies (not (due (score s l)) ⇒ 10) (there (there (here refl))));
+    }
+
+-- an accepted manual pick
+pub record Ranged (p : Profile) (s : State) (m l : ℕ) (a b : Key) (k : Pick) : Type 0 where
+  pub result : complete p s m manual l (manualInputs m l (level s l) (between a b)) ≡ k
+  pub formed : wellFormed p s ≡ true
+  pub in-levels : ltb l (p .levels) ≡ true
+  pub maximum : badMaximum m ≡ false
+  pub not-last : eqb (suc l) (p .levels) ≡ false
+  pub some-input : isEmpty (manualInputs m l (level s l) (between a b)) ≡ false
+
+-- what an accepted manual pick says
+pub range-accepted : (p : Profile) (s : State) (m l : ℕ) (a b : Key) (k : Pick) → manualPick p s m l a b ≡ gives k → Ranged p s m l a b k
+unfolding manualPick _⇒_
+range-accepted p s m l a b k h =
+    let first = manualInputs m l (level s l) (between a b) in
+    let keys = goodKey (p .longest) a && goodKey (p .longest) b in
+    let rs = (not (wellFormed p s) ⇒ 14) ∷ (not (ltb l (p .levels)) ⇒ 1) ∷ (not keys ⇒ 2) ∷ (badMaximum m ⇒ 9) ∷ (eqb (suc l) (p .levels) ⇒ 11) ∷ (isEmpty first ⇒ 10) ∷ [] in
+    let r = firstOf-gives rs (complete p s m manual l first) k h in
+    record {
+      result = r .answer;
+      formed = not-false (wellFormed p s) (r .none-applies (not (wellFormed p s) ⇒ 14) (here refl));
+      in-levels = not-false (ltb l (p .levels)) (r .none-applies (not (ltb l (p .levels)) ⇒ 1) (there (here refl)));
+      maximum = r .none-applies (badMaximum m ⇒ 9) (there (there (there (here refl))));
+      not-last = r .none-applies (eqb (suc l) (p .levels) ⇒ 11) (there (there (there (there (here refl)))));
+      some-input = r .none-applies (isEmpty first ⇒ 10) (there (there (there (there (there (here refl))))));
+    }
+
+-- a pick sets one pointer and nothing else
+pub complete-after : (p : Profile) (s : State) (m : ℕ) (c : Cause) (l : ℕ) (first : List File)
+    → complete p s m c l first .after ≡ setPointer s (complete p s m c l first .picked .level) (highKey (complete p s m c l first .picked .first))
+unfolding complete
+complete-after p s m c l first = refl
+
+-- an accepted size pick sets the pointer of its level to the first inputs' largest key
+pub pick-after-size : (p : Profile) (s : State) (m : ℕ) (k : Pick) → sizePick p s m ≡ gives k → k .after ≡ setPointer s (k .picked .level) (highKey (k .picked .first))
+pick-after-size p s m k h =
+    let l = levelToCompact p s in
+    subst (λ (x : Pick). x .after ≡ setPointer s (x .picked .level) (highKey (x .picked .first))) (size-accepted p s m k h .result)
+    (complete-after p s m (bySize (reported (score s l))) l (sizeInputs l (pointer s l) (level s l)))
+
+-- a manual pick alike
+pub pick-after-range : (p : Profile) (s : State) (m l : ℕ) (a b : Key) (k : Pick) → manualPick p s m l a b ≡ gives k → k .after ≡ setPointer s (k .picked .level) (highKey (k .picked .first))
+pick-after-range p s m l a b k h =
+    subst (λ (x : Pick). x .after ≡ setPointer s (x .picked .level) (highKey (x .picked .first))) (range-accepted p s m l a b k h .result)
+    (complete-after p s m manual l (manualInputs m l (level s l) (between a b)))
+
+-- ---- every list of a pick is its level with some files left out
+pub overlapping-sub : (l : ℕ) (fs : List File) (r : Range) → Sub (overlapping l fs r) fs
+unfolding overlapping
+overlapping-sub zero fs r = sub-keep (overlaps (widen fs r)) fs
+overlapping-sub (suc l) fs r = sub-keep (overlaps r) fs
+
+-- the files up to a total
+upTo-sub : (m t : ℕ) (fs : List File) → Sub (upTo m t fs) fs
+unfolding upTo
+upTo-sub m t [] = end
+upTo-sub m t (f ∷ fs) = also (go (upTo-sub m (t + f .size) fs) (ltb m (t + f .size)))
+  where
+    go : Sub (upTo m (t + f .size) fs) fs → (b : Bool) → Sub (cond b [] (upTo m (t + f .size) fs)) fs
+    go ih true = sub-none fs
+    go ih false = ih
+
+-- the start file is one of the level's
+first-in : (fs : List File) (f : File) → firstFile fs ≡ some f → In f fs
+unfolding firstFile
+first-in [] f e = let z : true ≡ false = cc in clash refl z
+first-in (g ∷ gs) f e = let q : f ≡ g = cc in here q
+
+-- the start file, by the pointer
+start-in : (o : Option Key) (fs : List File) (f : File) → startFile o fs ≡ some f → In f fs
+unfolding startFile orElse
+start-in none fs f e = first-in fs f e
+start-in (some k) fs f e = go (find (λ h. before k (h .largest)) fs) refl e
+  where
+    go : (o : Option File) → find (λ h. before k (h .largest)) fs ≡ o → orElse o (firstFile fs) ≡ some f → In f fs
+    go none q r = first-in fs f r
+    go (some h) q r = let s : h ≡ f = cc in subst (λ (x : File). In x fs) s (find-some (λ h. before k (h .largest)) fs h q .1)
+
+-- as a list
+start-sub : (o : Option Key) (fs : List File) → Sub (Option·toList (startFile o fs)) fs
+unfolding Option·toList
+start-sub o fs = go (startFile o fs) refl
+  where
+    go : (r : Option File) → startFile o fs ≡ r → Sub (Option·toList r) fs
+    go none e = sub-none fs
+    go (some f) e = sub-one f fs (start-in o fs f e)
+
+-- the first inputs of a size pick
+pub size-sub : (l : ℕ) (o : Option Key) (fs : List File) → Sub (sizeInputs l o fs) fs
+unfolding sizeInputs
+size-sub zero o fs = overlapping-sub 0 fs (rangeOf (Option·toList (startFile o fs)))
+size-sub (suc l) o fs = start-sub o fs
+
+-- the first inputs of a manual pick
+pub manual-sub : (m l : ℕ) (fs : List File) (r : Range) → Sub (manualInputs m l fs r) fs
+unfolding manualInputs
+manual-sub m zero fs r = overlapping-sub 0 fs r
+manual-sub m (suc l) fs r = sub-trans (upTo-sub m 0 (overlapping (suc l) fs r)) (overlapping-sub (suc l) fs r)
+
+-- the first inputs after growth
+pub grown-sub : (s : State) (m l : ℕ) (first second : List File) → Sub first (level s l) → Sub (grownFirst s m l first second) (level s l)
+unfolding grownFirst
+grown-sub s m l first second h = go (grows m first second grown again)
+  where
+    grown : List File
+    grown = overlapping l (level s l) (rangeOf (first ++ second))
+
+    again : List File
+    again = overlapping (suc l) (level s (suc l)) (rangeOf grown)
+
+    go : (b : Bool) → Sub (cond b grown first) (level s l)
+    go true = overlapping-sub l (level s l) (rangeOf (first ++ second))
+    go false = h
+
+-- a level with a file has a start file
+record Start (o : Option Key) (fs : List File) : Type 0 where
+  file : File
+  among : In file fs
+  alone : startFile o fs ≡ some file
+
+-- there is one
+start : (o : Option Key) (fs : List File) → isEmpty fs ≡ false → Start o fs
+unfolding isEmpty startFile firstFile orElse
+start o [] e = clash refl e
+start none (g ∷ gs) e = record { file = g; among = here refl; alone = refl }
+start (some k) (g ∷ gs) e = go (find (λ f. before k (f .largest)) (g ∷ gs)) refl
+  where
+    go : (r : Option File) → find (λ f. before k (f .largest)) (g ∷ gs) ≡ r → Start (some k) (g ∷ gs)
+    go none q = record { file = g; among = here refl; alone = rw q }
+    go (some h) q = record { file = h; among = find-some (λ f. before k (f .largest)) (g ∷ gs) h q .1; alone = rw q }
+
+-- a file overlaps its own range
+own-range : (p : Profile) (f : File) → goodFile p f ≡ true → overlaps (rangeOf (f ∷ [])) f ≡ true
+unfolding rangeOf between smallestOf largestOf
+own-range p f h =
+    let q = before-user (f .smallest) (f .largest) (goodFile-order p f h) in
+    overlaps-says (rangeOf (f ∷ [])) f .1 record { left = rw low-fold q; right = rw high-fold q }
+
+-- where work is due the level has a file
+pub due-nonempty : (s : State) (l : ℕ) → due (score s l) ≡ true → isEmpty (level s l) ≡ false
+unfolding due score byteLimit total sum isEmpty
+due-nonempty s zero h = go (level s 0) (leb-true 4 (length (level s 0)) h)
+  where
+    go : (fs : List File) → 4 ≤ length fs → isEmpty fs ≡ false
+    go [] i = absurd (omega arith)
+    go (f ∷ fs) i = refl
+due-nonempty s (suc l) h = go (level s (suc l)) (leb-true (10485760 * 10 ^ l) (total (level s (suc l))) h)
+  where
+    go : (fs : List File) → 10485760 * 10 ^ l ≤ total fs → isEmpty fs ≡ false
+    go [] i = absurd (none-is-0 i)
+      where
+        none-is-0 : 10485760 * 10 ^ l ≤ total [] → ⊥
+        none-is-0 i = omega (arith, ten-pow l)
+    go (f ∷ fs) i = refl
+
+-- a size pick at a level with a file has a first input
+pub size-nonempty : (p : Profile) (l : ℕ) (o : Option Key) (fs : List File) → ((f : File) → In f fs → goodFile p f ≡ true) → isEmpty fs ≡ false → isEmpty (sizeInputs l o fs) ≡ false
+unfolding sizeInputs overlapping Option·toList
+size-nonempty p zero o fs g e =
+    let s = start o fs e in
+    let f = s .file in
+    let r = rangeOf (Option·toList (startFile o fs)) in
+    let own : overlaps r f ≡ true = rw (s .alone) (own-range p f (g f (s .among))) in
+    in-nonempty (keep-in (overlaps (widen fs r)) fs f .1 (s .among, overlaps-mono r (widen fs r) f (widen-least fs r .contains) own))
+size-nonempty p (suc l) o fs g e = let s = start o fs e in rw (s .alone) (in-nonempty (here {x = s .file} {xs = []} refl))
+
+-- ---- growth
+-- growth leaves a first input
+pub grown-nonempty : (s : State) (m l : ℕ) (first second : List File) → isEmpty first ≡ false → isEmpty (grownFirst s m l first second) ≡ false
+unfolding grownFirst grows
+grown-nonempty s m l first second h = go (grows m first second grown again) refl
+  where
+    grown : List File
+    grown = overlapping l (level s l) (rangeOf (first ++ second))
+
+    again : List File
+    again = overlapping (suc l) (level s (suc l)) (rangeOf grown)
+
+    go : (b : Bool) → grows m first second grown again ≡ b → isEmpty (cond b grown first) ≡ false
+    go true k =
+        let a = not (isEmpty second) in
+        let b = ltb (length first) (length grown) in
+        let c = ltb (total grown + total second) (25 * m) in
+        let d = eqb (length again) (length second) in
+        longer-nonempty (length first) grown (ltb-true (length first) (length grown) (and-right a b (and-left (a && b) c (and-left (a && b && c) d k))))
+    go false k = h
+
+-- ---- the pointer that a pick sets is a good key
+largestOf-good : (p : Profile) (k : Key) (fs : List File) → goodKey (p .longest) k ≡ true → ((f : File) → In f fs → goodFile p f ≡ true) → goodKey (p .longest) (largestOf k fs) ≡ true
+unfolding largestOf
+largestOf-good p k [] h g = h
+largestOf-good p k (f ∷ fs) h g = largestOf-good p (cond (before k (f .largest)) (f .largest) k) fs (go (before k (f .largest))) (λ x m. g x (there m))
+  where
+    go : (t : Bool) → goodKey (p .longest) (cond t (f .largest) k) ≡ true
+    go true = goodFile-says p f .0 (g f (here refl)) .largest
+    go false = h
+
+-- the high key of good files is good
+highKey-good : (p : Profile) (fs : List File) → isEmpty fs ≡ false → ((f : File) → In f fs → goodFile p f ≡ true) → goodKey (p .longest) (highKey fs) ≡ true
+unfolding isEmpty
+highKey-good p [] e g = clash refl e
+highKey-good p (f ∷ fs) e g = rw high-fold (largestOf-good p (f .largest) fs (goodFile-says p f .0 (g f (here refl)) .largest) (λ x m. g x (there m)))
+
+-- the state that a pick leaves is well-formed
+pub complete-keeps : (p : Profile) (s : State) (m : ℕ) (c : Cause) (l : ℕ) (first : List File) → WF p s → Sub first (level s l) → isEmpty first ≡ false → WF p (complete p s m c l first .after)
+unfolding complete setPointer goodPointer level
+complete-keeps p s m c l first w h e = record {
+  levels = w .levels;
+  good = w .good;
+  words = w .words;
+  distinct-numbers = w .distinct-numbers;
+  room = w .room;
+  ordered = w .ordered;
+  pointer-levels = length-set (s .pointers) l (some (highKey picked)) ∙ w .pointer-levels;
+  pointers = λ o i. go o (set-in (s .pointers) l (some (highKey picked)) o i);
+  counters = w .counters;
+}
+  where
+    second : List File
+    second = overlapping (suc l) (level s (suc l)) (rangeOf first)
+
+    picked : List File
+    picked = grownFirst s m l first second
+
+    key-good : goodKey (p .longest) (highKey picked) ≡ true
+    key-good = highKey-good p picked (grown-nonempty s m l first second e) (λ f i. w .good f (join-in (s .files) l f (sub-in f (grown-sub s m l first second h) i)))
+
+    go : (o : Option Key) → (o ≡ some (highKey picked)) ⊎ In o (s .pointers) → goodPointer p o ≡ true
+    go o (inl q) = rw q key-good
+    go o (inr i) = w .pointers o i
+
+-- an accepted size pick keeps a state well-formed
+pub size-keeps : (p : Profile) (s : State) (m : ℕ) (k : Pick) → sizePick p s m ≡ gives k → WF p (k .after)
+unfolding level
+size-keeps p s m k h =
+    let a = size-accepted p s m k h in
+    let w = formed-says p s .0 (a .formed) in
+    let l = levelToCompact p s in
+    let some-file = due-nonempty s l (a .is-due) in
+    let good : (f : File) → In f (level s l) → goodFile p f ≡ true = λ f i. w .good f (join-in (s .files) l f i) in
+    subst (λ (x : Pick). WF p (x .after)) (a .result)
+    (complete-keeps p s m (bySize (reported (score s l))) l (sizeInputs l (pointer s l) (level s l)) w
+    (size-sub l (pointer s l) (level s l)) (size-nonempty p l (pointer s l) (level s l) good some-file))
+
+-- an accepted manual pick keeps a state well-formed
+pub range-keeps : (p : Profile) (s : State) (m l : ℕ) (a b : Key) (k : Pick) → manualPick p s m l a b ≡ gives k → WF p (k .after)
+range-keeps p s m l a b k h =
+    let r = range-accepted p s m l a b k h in
+    subst (λ (x : Pick). WF p (x .after)) (r .result)
+    (complete-keeps p s m manual l (manualInputs m l (level s l) (between a b)) (formed-says p s .0 (r .formed)) (manual-sub m l (level s l) (between a b)) (r .some-input))
+
+-- ---- the lists of a picked answer
+-- first inputs are files of the level, second inputs of the next, grandparents of the one after
+pub record OfLevel (s : State) (c : Picked) : Type 0 where
+  pub first : Sub (c .first) (level s (c .level))
+  pub second : Sub (c .second) (level s (suc (c .level)))
+  pub grand : Sub (c .grand) (level s (c .level + 2))
+
+-- grandparents are files of level + 2
+grand-sub : (p : Profile) (s : State) (l : ℕ) (r : Range) → Sub (grandOf p s l r) (level s (l + 2))
+unfolding grandOf
+grand-sub p s l r = go (ltb (l + 2) (p .levels))
+  where
+    go : (b : Bool) → Sub (cond b (overlapping (l + 2) (level s (l + 2)) r) []) (level s (l + 2))
+    go true = overlapping-sub (l + 2) (level s (l + 2)) r
+    go false = sub-none (level s (l + 2))
+
+-- so are the lists of a pick
+complete-of-level : (p : Profile) (s : State) (m : ℕ) (c : Cause) (l : ℕ) (first : List File) → Sub first (level s l) → OfLevel s (complete p s m c l first .picked)
+unfolding complete
+complete-of-level p s m c l first h =
+    let second = overlapping (suc l) (level s (suc l)) (rangeOf first) in
+    record {
+      first = grown-sub s m l first second h;
+      second = overlapping-sub (suc l) (level s (suc l)) (rangeOf first);
+      grand = grand-sub p s l (rangeOf (grownFirst s m l first second ++ second));
+    }
+
+-- of a size pick
+pub size-inputs-of-level : (p : Profile) (s : State) (m : ℕ) (k : Pick) → sizePick p s m ≡ gives k → OfLevel s (k .picked)
+size-inputs-of-level p s m k h =
+    let l = levelToCompact p s in
+    subst (λ (x : Pick). OfLevel s (x .picked)) (size-accepted p s m k h .result)
+    (complete-of-level p s m (bySize (reported (score s l))) l (sizeInputs l (pointer s l) (level s l)) (size-sub l (pointer s l) (level s l)))
+
+-- of a manual pick
+pub range-inputs-of-level : (p : Profile) (s : State) (m l : ℕ) (a b : Key) (k : Pick) → manualPick p s m l a b ≡ gives k → OfLevel s (k .picked)
+range-inputs-of-level p s m l a b k h =
+    subst (λ (x : Pick). OfLevel s (x .picked)) (range-accepted p s m l a b k h .result)
+    (complete-of-level p s m manual l (manualInputs m l (level s l) (between a b)) (manual-sub m l (level s l) (between a b)))
+
+-- there is a first input
+complete-nonempty : (p : Profile) (s : State) (m : ℕ) (c : Cause) (l : ℕ) (first : List File) → isEmpty first ≡ false → isEmpty (complete p s m c l first .picked .first) ≡ false
+unfolding complete
+complete-nonempty p s m c l first e = grown-nonempty s m l first (overlapping (suc l) (level s (suc l)) (rangeOf first)) e
+
+-- of a size pick
+pub size-first-nonempty : (p : Profile) (s : State) (m : ℕ) (k : Pick) → sizePick p s m ≡ gives k → isEmpty (k .picked .first) ≡ false
+unfolding level
+size-first-nonempty p s m k h =
+    let a = size-accepted p s m k h in
+    let w = formed-says p s .0 (a .formed) in
+    let l = levelToCompact p s in
+    subst (λ (x : Pick). isEmpty (x .picked .first) ≡ false) (a .result)
+    (complete-nonempty p s m (bySize (reported (score s l))) l (sizeInputs l (pointer s l) (level s l))
+    (size-nonempty p l (pointer s l) (level s l) (λ f i. w .good f (join-in (s .files) l f i)) (due-nonempty s l (a .is-due))))
+
+-- of a manual pick
+pub range-first-nonempty : (p : Profile) (s : State) (m l : ℕ) (a b : Key) (k : Pick) → manualPick p s m l a b ≡ gives k → isEmpty (k .picked .first) ≡ false
+range-first-nonempty p s m l a b k h =
+    let r = range-accepted p s m l a b k h in
+    subst (λ (x : Pick). isEmpty (x .picked .first) ≡ false) (r .result)
+    (complete-nonempty p s m manual l (manualInputs m l (level s l) (between a b)) (r .some-input))
+
+-- ---- growth keeps the second inputs: the files of level + 1 that overlap the final first inputs' range are exactly the second inputs
+-- a list of good files lies in its own range
+in-own-range : (fs : List File) → ((f : File) → In f fs → before (f .largest) (f .smallest) ≡ false) → (f : File) → In f fs → overlaps (rangeOf fs) f ≡ true
+unfolding rangeOf between
+in-own-range [] g f m = absurd (not-nil m)
+in-own-range (x ∷ xs) g f m =
+    let lo = lowest x xs .least f m in
+    let hi = highest x xs .greatest f m in
+    let own = g f m in
+    overlaps-says (rangeOf (x ∷ xs)) f .1 record {
+      left = before-user (lowKey (x ∷ xs)) (f .largest) (before-order .ntrans (f .largest) (f .smallest) (lowKey (x ∷ xs)) own lo);
+      right = before-user (f .smallest) (highKey (x ∷ xs)) (before-order .ntrans (highKey (x ∷ xs)) (f .largest) (f .smallest) hi own);
+    }
+
+-- a list within another has a range within the other's
+range-within : (x y : File) (xs ys : List File) → ((f : File) → In f (x ∷ xs) → In f (y ∷ ys)) → Within (rangeOf (x ∷ xs)) (rangeOf (y ∷ ys))
+unfolding rangeOf between
+range-within x y xs ys h =
+    let lo = lowest x xs in
+    let hi = highest x xs in
+    record {
+      start = before-user (lowKey (y ∷ ys)) (lowKey (x ∷ xs)) (rw (lo .is) (lowest y ys .least (lo .file) (h (lo .file) (lo .among))));
+      stop = before-user (highKey (x ∷ xs)) (highKey (y ∷ ys)) (rw (hi .is) (highest y ys .greatest (hi .file) (h (hi .file) (hi .among))));
+    }
+
+-- a file of the level that overlaps the range is among the answer
+overlapping-keeps : (l : ℕ) (fs : List File) (r : Range) (f : File) → In f fs → overlaps r f ≡ true → In f (overlapping l fs r)
+unfolding overlapping
+overlapping-keeps zero fs r f m o = keep-in (overlaps (widen fs r)) fs f .1 (m, overlaps-mono r (widen fs r) f (widen-least fs r .contains) o)
+overlapping-keeps (suc l) fs r f m o = keep-in (overlaps r) fs f .1 (m, o)
+
+-- the grown range overlaps the same files of level + 1
+same-overlap : (s : State) (m l : ℕ) (x : File) (xs : List File) → ((f : File) → In f (level s l) → before (f .largest) (f .smallest) ≡ false)
+    → ((f : File) → In f (level s (suc l)) → before (f .largest) (f .smallest) ≡ false) → Sub (x ∷ xs) (level s l)
+    → overlapping (suc l) (level s (suc l)) (rangeOf (grownFirst s m l (x ∷ xs) (overlapping (suc l) (level s (suc l)) (rangeOf (x ∷ xs)))))
+    ≡ overlapping (suc l) (level s (suc l)) (rangeOf (x ∷ xs))
+unfolding grownFirst grows overlapping
+same-overlap s m l x xs good good′ sub = go (grows m first second grown again) refl
+  where
+    first : List File
+    first = x ∷ xs
+
+    second : List File
+    second = keep (overlaps (rangeOf first)) (level s (suc l))
+
+    grown : List File
+    grown = overlapping l (level s l) (rangeOf (first ++ second))
+
+    again : List File
+    again = keep (overlaps (rangeOf grown)) (level s (suc l))
+
+    ordered : (f : File) → In f first ⊎ In f second → before (f .largest) (f .smallest) ≡ false
+    ordered f (inl i) = good f (sub-in f sub i)
+    ordered f (inr i) = good′ f (keep-in (overlaps (rangeOf first)) (level s (suc l)) f .0 i .0)
+
+    stays : (f : File) → In f first → In f grown
+    stays f i = overlapping-keeps l (level s l) (rangeOf (first ++ second)) f (sub-in f sub i)
+        (in-own-range (first ++ second) (λ g j. ordered g (append-cases first j)) f (in-left second i))
+
+    wider : (gs : List File) → ((f : File) → In f first → In f gs) → Within (rangeOf first) (rangeOf gs)
+    wider [] h = absurd (not-nil (h x (here refl)))
+    wider (y ∷ ys) h = range-within x y xs ys h
+
+    go : (b : Bool) → grows m first second grown again ≡ b → keep (overlaps (rangeOf (cond b grown first))) (level s (suc l)) ≡ second
+    go false e = refl
+    go true e =
+        let w = wider grown stays in
+        let a = not (isEmpty second) && ltb (length first) (length grown) && ltb (total grown + total second) (25 * m) in
+        let n = eqb-true (length again) (length second) (and-right a (eqb (length again) (length second)) e) in
+        sym (sub-same (keep-sub (overlaps (rangeOf first)) (overlaps (rangeOf grown)) (level s (suc l)) (λ f o. overlaps-mono (rangeOf first) (rangeOf grown) f w o)) (sym n))
+
+-- for a pick from any first inputs
+complete-second-same : (p : Profile) (s : State) (m : ℕ) (c : Cause) (l : ℕ) (first : List File) → WF p s → Sub first (level s l) → isEmpty first ≡ false
+    → overlapping (suc l) (level s (suc l)) (rangeOf (complete p s m c l first .picked .first)) ≡ complete p s m c l first .picked .second
+unfolding complete isEmpty level
+complete-second-same p s m c l [] w sub e = clash refl e
+complete-second-same p s m c l (x ∷ xs) w sub e = same-overlap s m l x xs
+    (λ f i. goodFile-order p f (w .good f (join-in (s .files) l f i))) (λ f i. goodFile-order p f (w .good f (join-in (s .files) (suc l) f i))) sub
+
+-- for a size pick
+pub size-second-same : (p : Profile) (s : State) (m : ℕ) (k : Pick) → sizePick p s m ≡ gives k
+    → overlapping (suc (k .picked .level)) (level s (suc (k .picked .level))) (rangeOf (k .picked .first)) ≡ k .picked .second
+unfolding level complete
+size-second-same p s m k h =
+    let a = size-accepted p s m k h in
+    let w = formed-says p s .0 (a .formed) in
+    let l = levelToCompact p s in
+    subst (λ (x : Pick). overlapping (suc (x .picked .level)) (level s (suc (x .picked .level))) (rangeOf (x .picked .first)) ≡ x .picked .second) (a .result)
+    (complete-second-same p s m (bySize (reported (score s l))) l (sizeInputs l (pointer s l) (level s l)) w (size-sub l (pointer s l) (level s l))
+    (size-nonempty p l (pointer s l) (level s l) (λ f i. w .good f (join-in (s .files) l f i)) (due-nonempty s l (a .is-due))))
+
+-- for a manual pick
+pub range-second-same : (p : Profile) (s : State) (m l : ℕ) (a b : Key) (k : Pick) → manualPick p s m l a b ≡ gives k
+    → overlapping (suc (k .picked .level)) (level s (suc (k .picked .level))) (rangeOf (k .picked .first)) ≡ k .picked .second
+unfolding complete
+range-second-same p s m l a b k h =
+    let r = range-accepted p s m l a b k h in
+    subst (λ (x : Pick). overlapping (suc (x .picked .level)) (level s (suc (x .picked .level))) (rangeOf (x .picked .first)) ≡ x .picked .second) (r .result)
+    (complete-second-same p s m manual l (manualInputs m l (level s l) (between a b)) (formed-says p s .0 (r .formed)) (manual-sub m l (level s l) (between a b)) (r .some-input))
