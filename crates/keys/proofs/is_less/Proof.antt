@@ -1,0 +1,29 @@
+-- `keys::is_less` meets its contract. Assumes nothing.
+use borrow.Author.Needs.{needs}
+use Rattle.keys.specs.Key.{less}
+use Rattle.keys.proofs.is_less.Statement.{statement}
+use Rattle.keys.proofs.is_less.Tie as tie
+
+enum-told : tie.Need-enum-told
+enum-told c = search needs
+
+enum-told-2 : tie.Need-enum-told-2
+enum-told-2 c = search needs
+
+enum-told-3 : tie.Need-enum-told-3
+enum-told-3 c = search needs
+
+returns : tie.Need-returns
+unfolding less
+returns c = rw (c .enum-told .given .1)
+
+returns-2 : tie.Need-returns-2
+unfolding less
+returns-2 c = rw (c .enum-told2 .given .1)
+
+returns-3 : tie.Need-returns-3
+unfolding less
+returns-3 c = rw (c .enum-told3 .given .1)
+
+pub is-less-spec : {M : Type 1} → statement M
+is-less-spec = tie.close (tie.spec enum-told enum-told-2 enum-told-3 returns returns-2 returns-3)

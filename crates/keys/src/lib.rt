@@ -1,0 +1,436 @@
+// Internal keys, user keys and the two kinds of numbers, by value. Every function answers for every record, whatever its length says.
+ghost use mathlib.Core.Path.{_≡_};
+ghost use Prim.Native.Nat.{_+_, _-_, _≤_, _<_};
+ghost use mathlib.Core.Bool.{cond};
+ghost use mathlib.Core.List.{[]};
+ghost use lib.Dec.{leb};
+ghost use lib.ListN.{length};
+ghost use Rattle.lemmas.specs.Order.{lexb};
+ghost use Rattle.lemmas.specs.Lists.{all};
+ghost use Rattle.model.specs.Key as model;
+ghost use Rattle.model.specs.Calls.{compareKeys, parseKey};
+ghost use Rattle.model.specs.File.{full};
+ghost use Rattle.keys.specs.Key.{keyOf, userOf, keyRecord, userRecord, soundKey, soundUser, isZero, standing, larger, less, laid};
+ghost use Rattle.keys.specs.KeyCalls.{comparedOf, parsed};
+use answers::Outcome;
+use answers::Refusal;
+
+// The number of a table file. No call takes it where a sequence number is meant.
+pub struct FileNumber(pub u64);
+
+// The sequence of a key. No call takes it where a file number is meant.
+pub struct SequenceNumber(pub u64);
+
+// An internal key: a user key and eight trailer bytes, the first `len` of `bytes`.
+pub struct Key {
+    pub bytes: [u8; 40],
+    pub len: usize,
+}
+
+impl Key {
+    // The most bytes that an internal key has.
+    pub const ROOM: usize = 40;
+    // The bytes of a trailer: sequence × 256 + type, little-endian.
+    pub const TRAILER: usize = 8;
+}
+
+// A user key: the first `len` of `bytes`.
+pub struct UserKey {
+    pub bytes: [u8; 32],
+    pub len: usize,
+}
+
+impl UserKey {
+    // The most bytes that a user key has.
+    pub const ROOM: usize = 32;
+}
+
+// How two keys stand.
+pub enum Order {
+    Less,
+    Equal,
+    Greater,
+}
+
+// The key of no bytes, as empty places hold it.
+pub const BLANK_KEY: Key = Key {
+    bytes: [0u8; 40],
+    len: 0,
+};
+
+// The order of two lists of bytes: by the first that differs, a proper prefix first.
+pub fn lex_order(a: &[u8], b: &[u8]) -> Order
+    ensures { λ r. ⌜ r ≡ standing lexb (now (a .entry)) (now (b .entry)) ⌝ }
+{
+    let m = a.len();
+    let n = b.len();
+    let mut i: usize = 0;
+    while i < m {
+        if n <= i {
+            return Order::Greater;
+        }
+        let x = a[i];
+        let y = b[i];
+        if x < y {
+            return Order::Less;
+        }
+        if y < x {
+            return Order::Greater;
+        }
+        i += 1;
+    }
+    if i < n {
+        return Order::Less;
+    }
+    Order::Equal
+}
+
+// How many bytes a record of this length holds: none where the length is beyond the room.
+fn held_len(len: usize, room: usize) -> usize
+    ensures { λ r. ⌜ r ≡ cond (leb len room) len 0 ⌝ }
+{
+    if room < len { 0 } else { len }
+}
+
+// How many bytes the key has: none where its length is beyond its room.
+fn key_len(k: Key) -> usize
+    ensures { λ r. ⌜ r ≡ length (keyOf k) ⌝ }
+{
+    held_len(k.len, Key::ROOM)
+}
+
+// How many bytes of the key are the user key's: all but the trailer.
+fn user_len(k: Key) -> usize
+    ensures { λ r. ⌜ r ≡ length (model.user (keyOf k)) ⌝ }
+{
+    let n = key_len(k);
+    if n < Key::TRAILER {
+        return 0;
+    }
+    n - Key::TRAILER
+}
+
+// How many bytes the user key has: none where its length is beyond its room.
+fn user_key_len(u: UserKey) -> usize
+    ensures { λ r. ⌜ r ≡ length (userOf u) ⌝ }
+{
+    held_len(u.len, UserKey::ROOM)
+}
+
+// A byte as a number of 64 bits.
+fn wide(x: u8) -> u64
+    ensures { λ r. ⌜ r ≡ x ⌝ }
+{
+    x as u64
+}
+
+// The type of a key: the trailer's lowest byte.
+pub fn kind(k: Key) -> u8
+    ensures { λ r. ⌜ r ≡ model.kind (keyOf k) ⌝ }
+{
+    let n = key_len(k);
+    if n == 0 {
+        return 0;
+    }
+    let at = user_len(k);
+    k.bytes[at]
+}
+
+// The sequence of a key: the trailer without its lowest byte.
+pub fn sequence(k: Key) -> SequenceNumber
+    ensures { λ r. ⌜ r .0 ≡ model.sequence (keyOf k) ⌝ }
+{
+    let stop = user_len(k) + 1;
+    let mut j = key_len(k);
+    let mut s: u64 = 0;
+    while stop < j {
+        j -= 1;
+        s = s * 256 + wide(k.bytes[j]);
+    }
+    SequenceNumber(s)
+}
+
+// What decides between keys of one user key, the larger first: the sequence; the type isn't weighed.
+fn rank(k: Key) -> u64
+    ensures { λ r. ⌜ r ≡ model.rank (keyOf k) ⌝ }
+{
+    let s = sequence(k);
+    s.0
+}
+
+// The bytes laid at the start of the output, as many as it has room for; past them the output is as it was.
+pub fn copy_into(src: &[u8], out: &mut [u8])
+    ensures { λ _. ⌜ now (out .exit) ≡ laid (now (src .entry)) (now (out .entry)) ⌝ }
+{
+    let m = src.len();
+    let n = out.len();
+    let mut i: usize = 0;
+    while i < m {
+        if n <= i {
+            return;
+        }
+        out[i] = src[i];
+        i += 1;
+    }
+}
+
+// The user key of an internal key.
+pub fn user_key(k: Key) -> UserKey
+    ensures { λ r. ⌜ r ≡ userRecord (model.user (keyOf k)) ⌝ }
+{
+    let n = user_len(k);
+    let x = k.bytes;
+    let mut out = [0u8; 32];
+    copy_into(&x[0..n], &mut out);
+    UserKey { bytes: out, len: n }
+}
+
+// The order of the user keys of two internal keys.
+pub fn order_of_users(a: Key, b: Key) -> Order
+    ensures { λ r. ⌜ r ≡ standing model.userBefore (model.user (keyOf a)) (model.user (keyOf b)) ⌝ }
+{
+    let m = user_len(a);
+    let n = user_len(b);
+    let x = a.bytes;
+    let y = b.bytes;
+    lex_order(&x[0..m], &y[0..n])
+}
+
+// The order of a user key and the user key of an internal key.
+pub fn order_of_user(u: UserKey, k: Key) -> Order
+    ensures { λ r. ⌜ r ≡ standing model.userBefore (userOf u) (model.user (keyOf k)) ⌝ }
+{
+    let m = user_key_len(u);
+    let n = user_len(k);
+    let x = u.bytes;
+    let y = k.bytes;
+    lex_order(&x[0..m], &y[0..n])
+}
+
+// The order of two user keys.
+pub fn order_of_user_keys(u: UserKey, v: UserKey) -> Order
+    ensures { λ r. ⌜ r ≡ standing model.userBefore (userOf u) (userOf v) ⌝ }
+{
+    let m = user_key_len(u);
+    let n = user_key_len(v);
+    let x = u.bytes;
+    let y = v.bytes;
+    lex_order(&x[0..m], &y[0..n])
+}
+
+// The larger number first.
+fn order_of_ranks(a: u64, b: u64) -> Order
+    ensures { λ r. ⌜ r ≡ standing larger a b ⌝ }
+{
+    if b < a {
+        return Order::Less;
+    }
+    if a < b {
+        return Order::Greater;
+    }
+    Order::Equal
+}
+
+// The order of internal keys: by user key, then the larger rank first.
+pub fn order_of_keys(a: Key, b: Key) -> Order
+    ensures { λ r. ⌜ r ≡ standing model.before (keyOf a) (keyOf b) ⌝ }
+{
+    let u = order_of_users(a, b);
+    match u {
+        Order::Less => Order::Less,
+        Order::Greater => Order::Greater,
+        Order::Equal => {
+            let s = rank(a);
+            let t = rank(b);
+            order_of_ranks(s, t)
+        }
+    }
+}
+
+// Whether the answer is that the first comes first.
+fn is_less(o: Order) -> bool
+    ensures { λ r. ⌜ r ≡ less o ⌝ }
+{
+    match o {
+        Order::Less => true,
+        Order::Equal => false,
+        Order::Greater => false,
+    }
+}
+
+// Whether a key is strictly before another.
+pub fn is_before(a: Key, b: Key) -> bool
+    ensures { λ r. ⌜ r ≡ model.before (keyOf a) (keyOf b) ⌝ }
+{
+    is_less(order_of_keys(a, b))
+}
+
+// Whether a user key is strictly before the user key of an internal key.
+pub fn user_is_before(u: UserKey, k: Key) -> bool
+    ensures { λ r. ⌜ r ≡ model.userBefore (userOf u) (model.user (keyOf k)) ⌝ }
+{
+    is_less(order_of_user(u, k))
+}
+
+// Whether a user key is strictly after the user key of an internal key.
+pub fn user_is_after(u: UserKey, k: Key) -> bool
+    ensures { λ r. ⌜ r ≡ model.userBefore (model.user (keyOf k)) (userOf u) ⌝ }
+{
+    let o = order_of_user(u, k);
+    match o {
+        Order::Less => false,
+        Order::Equal => false,
+        Order::Greater => true,
+    }
+}
+
+// Whether a user key is strictly before another.
+pub fn user_key_is_before(u: UserKey, v: UserKey) -> bool
+    ensures { λ r. ⌜ r ≡ model.userBefore (userOf u) (userOf v) ⌝ }
+{
+    is_less(order_of_user_keys(u, v))
+}
+
+// Whether a key has a right length and type.
+pub fn is_good(k: Key) -> bool
+    ensures { λ r. ⌜ r ≡ model.goodKey (full .longest) (keyOf k) ⌝ }
+{
+    let n = key_len(k);
+    if n <= Key::TRAILER {
+        return false;
+    }
+    kind(k) <= 1
+}
+
+// Whether a user key has a right length.
+pub fn is_good_user(u: UserKey) -> bool
+    ensures { λ r. ⌜ r ≡ model.goodUser (full .longest) (userOf u) ⌝ }
+{
+    let n = user_key_len(u);
+    0 < n
+}
+
+// Whether the record of a key has its length within its room and zeros past its end.
+pub fn is_sound(k: Key) -> bool
+    ensures { λ r. ⌜ r ≡ soundKey k ⌝ }
+{
+    let n = k.len;
+    if Key::ROOM < n {
+        return false;
+    }
+    let x = k.bytes;
+    all_zero(&x[n..40])
+}
+
+// Whether the record of a user key has its length within its room and zeros past its end.
+pub fn is_sound_user(u: UserKey) -> bool
+    ensures { λ r. ⌜ r ≡ soundUser u ⌝ }
+{
+    let n = u.len;
+    if UserKey::ROOM < n {
+        return false;
+    }
+    let x = u.bytes;
+    all_zero(&x[n..32])
+}
+
+// Whether every byte is zero.
+fn all_zero(a: &[u8]) -> bool
+    ensures { λ r. ⌜ r ≡ all isZero (now (a .entry)) ⌝ }
+{
+    let n = a.len();
+    let mut i: usize = 0;
+    while i < n {
+        if a[i] != 0 {
+            return false;
+        }
+        i += 1;
+    }
+    true
+}
+
+// What is kept of a key: the same bytes, zeros past its end.
+pub fn kept(k: Key) -> Key
+    ensures { λ r. ⌜ r ≡ keyRecord (keyOf k) ⌝ }
+{
+    let n = key_len(k);
+    let x = k.bytes;
+    let mut out = [0u8; 40];
+    copy_into(&x[0..n], &mut out);
+    Key { bytes: out, len: n }
+}
+
+// What is kept of a user key: the same bytes, zeros past its end.
+pub fn kept_user(u: UserKey) -> UserKey
+    ensures { λ r. ⌜ r ≡ userRecord (userOf u) ⌝ }
+{
+    let n = user_key_len(u);
+    let x = u.bytes;
+    let mut out = [0u8; 32];
+    copy_into(&x[0..n], &mut out);
+    UserKey { bytes: out, len: n }
+}
+
+// The record of no key, as empty places hold it.
+pub fn blank_key() -> Key
+    ensures { λ r. ⌜ r ≡ keyRecord [] ⌝ }
+{
+    BLANK_KEY
+}
+
+// The answer of `compare`: how two keys stand, or the number of the refusal.
+pub enum Compared {
+    Before,
+    Same,
+    After,
+    Refused(u8),
+}
+
+// The parts of a key, with the number of a refusal or none.
+pub struct Parsed {
+    pub outcome: Outcome,
+    pub kind: u8,
+    pub sequence: SequenceNumber,
+    pub user: UserKey,
+}
+
+// How two internal keys stand: by user key, then the larger sequence first. A key of wrong length or type is refused.
+pub fn compare(a: Key, b: Key) -> Compared
+    ensures { λ r. ⌜ comparedOf r ≡ compareKeys full (keyOf a) (keyOf b) ⌝ }
+{
+    if !is_good(a) {
+        return Compared::Refused(Refusal::KEY);
+    }
+    if !is_good(b) {
+        return Compared::Refused(Refusal::KEY);
+    }
+    let o = order_of_keys(a, b);
+    match o {
+        Order::Less => Compared::Before,
+        Order::Equal => Compared::Same,
+        Order::Greater => Compared::After,
+    }
+}
+
+// The parts of an internal key: type, sequence and user key. A key of wrong length or type is refused.
+pub fn parse_internal_key(k: Key) -> Parsed
+    ensures { λ r. ⌜ r ≡ parsed (parseKey full (keyOf k)) ⌝ }
+{
+    if !is_good(k) {
+        let outcome = Outcome::Refused(Refusal::KEY);
+        let none = BLANK_KEY;
+        return Parsed {
+            outcome: outcome,
+            kind: 0,
+            sequence: SequenceNumber(0),
+            user: user_key(none),
+        };
+    }
+    let outcome = Outcome::Done;
+    Parsed {
+        outcome: outcome,
+        kind: kind(k),
+        sequence: sequence(k),
+        user: user_key(k),
+    }
+}

@@ -1,0 +1,290 @@
+// File records by value, and what is asked of the files in a run of places. Every function answers for every record and every place.
+ghost use mathlib.Core.Path.{_≡_};
+ghost use mathlib.Core.List.{map};
+ghost use Prim.Native.Nat.{min};
+ghost use lib.ListN.{drop, replicate};
+ghost use lib.Seq.{slice};
+ghost use Rattle.lemmas.specs.Lists.{all};
+ghost use Rattle.lemmas.specs.Slices.{put};
+ghost use Rattle.model.specs.File.{File, seeks, total, numbers};
+ghost use Rattle.keys.specs.Key.{keyOf};
+ghost use Rattle.records.specs.Record.{fileOf, recordOf, blank, vacant, soundRecord, wellRecord, blankKey, isBlank, limitOf};
+ghost use Rattle.records.specs.Run.{run, endsOf};
+use keys::FileNumber;
+use keys::Key;
+
+// The levels of a version.
+pub struct Level {}
+
+impl Level {
+    // How many levels there are.
+    pub const COUNT: usize = 7;
+}
+
+// A table file: its number, its size, its smallest and largest internal key, and its allowed seeks.
+pub struct FileRecord {
+    pub number: FileNumber,
+    pub size: u64,
+    pub smallest: Key,
+    pub largest: Key,
+    pub seeks: u64,
+}
+
+impl FileRecord {
+    // A file has one allowed seek for so many bytes.
+    pub const SEEK_DIVISOR: u64 = 16384;
+    // The fewest allowed seeks.
+    pub const LEAST_SEEKS: u64 = 100;
+    // The largest size.
+    pub const LARGEST_SIZE: u64 = 1099511627776;
+}
+
+// The smallest and the largest key of a list of files.
+pub struct Ends {
+    pub low: Key,
+    pub high: Key,
+}
+
+// The byte limits of levels 1 to 5.
+const BYTE_LIMITS: [u64; 5] = [10485760, 104857600, 1048576000, 10485760000, 104857600000];
+
+// What every empty place holds.
+pub const BLANK: FileRecord = FileRecord {
+    number: FileNumber(0),
+    size: 0,
+    smallest: Key {
+        bytes: [0u8; 40],
+        len: 0,
+    },
+    largest: Key {
+        bytes: [0u8; 40],
+        len: 0,
+    },
+    seeks: 0,
+};
+
+// The byte limit of a level from 1 to 5; 0 for any other.
+pub fn byte_limit(level: usize) -> u64
+    ensures { λ r. ⌜ r ≡ limitOf level ⌝ }
+{
+    if level < 1 {
+        return 0;
+    }
+    let i = level - 1;
+    if 5 <= i {
+        return 0;
+    }
+    BYTE_LIMITS[i]
+}
+
+// The allowed seeks of a file: its size by the divisor, rounded down, at least the fewest.
+pub fn allowed_seeks(size: u64) -> u64
+    ensures { λ r. ⌜ r ≡ seeks size ⌝ }
+{
+    let n = size / FileRecord::SEEK_DIVISOR;
+    if n < FileRecord::LEAST_SEEKS {
+        return FileRecord::LEAST_SEEKS;
+    }
+    n
+}
+
+// The record that is kept of a file: bytes past its keys' ends aren't read.
+pub fn record(number: FileNumber, size: u64, smallest: Key, largest: Key) -> FileRecord
+    ensures { λ r. ⌜ r ≡ recordOf (record { number = number .0; size = size; smallest = keyOf smallest; largest = keyOf largest }) ⌝ }
+{
+    let low = keys::kept(smallest);
+    let high = keys::kept(largest);
+    FileRecord {
+        number: number,
+        size: size,
+        smallest: low,
+        largest: high,
+        seeks: allowed_seeks(size),
+    }
+}
+
+// The blank record.
+pub fn blank_record() -> FileRecord
+    ensures { λ r. ⌜ r ≡ blank ⌝ }
+{
+    BLANK
+}
+
+// A version's places, all empty.
+pub fn blanks() -> [FileRecord; 256]
+    ensures { λ r. ⌜ r ≡ vacant 256 ⌝ }
+{
+    [BLANK; 256]
+}
+
+// Whether zeros stand past the keys' ends and the allowed seeks are those of the size.
+pub fn is_sound(r: FileRecord) -> bool
+    ensures { λ b. ⌜ b ≡ soundRecord r ⌝ }
+{
+    let low = r.smallest;
+    if !keys::is_sound(low) {
+        return false;
+    }
+    let high = r.largest;
+    if !keys::is_sound(high) {
+        return false;
+    }
+    r.seeks == allowed_seeks(r.size)
+}
+
+// Whether a record is sound and its file well-formed: keys, smallest not after largest, size.
+pub fn is_well_formed(r: FileRecord) -> bool
+    ensures { λ b. ⌜ b ≡ wellRecord r ⌝ }
+{
+    if !is_sound(r) {
+        return false;
+    }
+    let low = r.smallest;
+    let high = r.largest;
+    if !keys::is_good(low) {
+        return false;
+    }
+    if !keys::is_good(high) {
+        return false;
+    }
+    if keys::is_before(high, low) {
+        return false;
+    }
+    r.size <= FileRecord::LARGEST_SIZE
+}
+
+fn is_blank_key(k: Key) -> bool
+    ensures { λ b. ⌜ b ≡ blankKey k ⌝ }
+{
+    if k.len == 0 { keys::is_sound(k) } else { false }
+}
+
+// Whether a record is the blank one.
+pub fn is_blank(r: FileRecord) -> bool
+    ensures { λ b. ⌜ b ≡ isBlank r ⌝ }
+{
+    let n = r.number;
+    if n.0 != 0 {
+        return false;
+    }
+    if r.size != 0 {
+        return false;
+    }
+    if r.seeks != 0 {
+        return false;
+    }
+    let low = r.smallest;
+    if !is_blank_key(low) {
+        return false;
+    }
+    let high = r.largest;
+    is_blank_key(high)
+}
+
+// A place, or the end of the room.
+fn within(to: usize) -> usize
+    ensures { λ r. ⌜ r ≡ min to 256 ⌝ }
+{
+    if 256 < to {
+        return 256;
+    }
+    to
+}
+
+// Whether each record of a run is well-formed.
+pub fn are_well_formed(files: [FileRecord; 256], from: usize, to: usize) -> bool
+    ensures { λ r. ⌜ r ≡ all wellRecord (slice from to files) ⌝ }
+{
+    let end = within(to);
+    let mut i = from;
+    while i < end {
+        if !is_well_formed(files[i]) {
+            return false;
+        }
+        i += 1;
+    }
+    true
+}
+
+// Whether each record from a place on is blank.
+pub fn are_blank(files: [FileRecord; 256], from: usize) -> bool
+    ensures { λ r. ⌜ r ≡ all isBlank (drop from files) ⌝ }
+{
+    let mut i = from;
+    while i < 256 {
+        if !is_blank(files[i]) {
+            return false;
+        }
+        i += 1;
+    }
+    true
+}
+
+// The sum of the sizes in a run, or the largest u64 where that is less.
+pub fn total_size(files: [FileRecord; 256], from: usize, to: usize) -> u64
+    ensures { λ r. ⌜ r ≡ min (total (run from to files)) 18446744073709551615 ⌝ }
+{
+    let end = within(to);
+    let mut s: u64 = 0;
+    let mut i = from;
+    while i < end {
+        let x = files[i].size;
+        if 18446744073709551615 - s < x {
+            return 18446744073709551615;
+        }
+        s += x;
+        i += 1;
+    }
+    s
+}
+
+// The numbers in a run, zeros past them.
+pub fn numbers_of(files: [FileRecord; 256], from: usize, to: usize) -> [u64; 256]
+    ensures { λ r. ⌜ r ≡ put (replicate 256 0) 0 (numbers (run from to files)) ⌝ }
+{
+    let end = within(to);
+    let mut out = [0u64; 256];
+    let mut n: usize = 0;
+    let mut i = from;
+    while i < end {
+        let f = files[i];
+        let x = f.number;
+        out[n] = x.0;
+        n += 1;
+        i += 1;
+    }
+    out
+}
+
+// The smallest and the largest key in a run; of keys equal in order those of the first file.
+pub fn get_range(files: [FileRecord; 256], from: usize, to: usize) -> Ends
+    ensures { λ r. ⌜ r ≡ endsOf (run from to files) ⌝ }
+{
+    let end = within(to);
+    if end <= from {
+        return Ends {
+            low: keys::blank_key(),
+            high: keys::blank_key(),
+        };
+    }
+    let first = files[from];
+    let mut low = first.smallest;
+    let mut high = first.largest;
+    let mut i = from + 1;
+    while i < end {
+        let f = files[i];
+        let a = f.smallest;
+        if keys::is_before(a, low) {
+            low = a;
+        }
+        let b = f.largest;
+        if keys::is_before(high, b) {
+            high = b;
+        }
+        i += 1;
+    }
+    Ends {
+        low: keys::kept(low),
+        high: keys::kept(high),
+    }
+}
