@@ -1,0 +1,48 @@
+-- `counters::are_bounded` meets its contract. Assumes nothing.
+use mathlib.Core.Path.{_≡_, refl, sym, _∙_}
+use mathlib.Core.Bool.{Bool, true, false, _&&_}
+use lib.Dec.{leb}
+use borrow.Author.Tests.{le-leb, lt-leb}
+use Rattle.lemmas.specs.Lists.{all}
+use Rattle.lemmas.specs.ListLaws.{and-true}
+use Rattle.model.specs.File.{goodCounters, maxCounter}
+use Rattle.counters.specs.Counters.{countersOf}
+use Rattle.counters.proofs.are_bounded.Statement.{statement}
+use Rattle.counters.proofs.are_bounded.Tie as tie
+
+returns : tie.Need-returns
+unfolding goodCounters all maxCounter countersOf
+returns c = rw (lt-leb _ 72057594037927935 (c .if1 .taken))
+
+returns-2 : tie.Need-returns-2
+unfolding goodCounters all maxCounter countersOf
+returns-2 c =
+    let e = c .before .before .before in
+    rw (le-leb _ 72057594037927935 (e .if1 .left), lt-leb _ 72057594037927935 (c .if2 .taken))
+
+returns-3 : tie.Need-returns-3
+unfolding goodCounters all maxCounter countersOf
+returns-3 c =
+    let g = c .before .before .before in
+    let e = g .before .before .before in
+    rw (le-leb _ 72057594037927935 (e .if1 .left), le-leb _ 72057594037927935 (g .if2 .left), lt-leb _ 72057594037927935 (c .if3 .taken))
+
+returns-4 : tie.Need-returns-4
+unfolding goodCounters all maxCounter countersOf
+returns-4 c =
+    let h = c .before .before .before in
+    let g = h .before .before .before in
+    let e = g .before .before .before in
+    rw (le-leb _ 72057594037927935 (e .if1 .left), le-leb _ 72057594037927935 (g .if2 .left), le-leb _ 72057594037927935 (h .if3 .left), lt-leb _ 72057594037927935 (c .if4 .taken))
+
+returns-5 : tie.Need-returns-5
+unfolding goodCounters all maxCounter countersOf
+returns-5 c =
+    let k = c .before .before in
+    let h = k .before .before .before in
+    let g = h .before .before .before in
+    let e = g .before .before .before in
+    rw (le-leb _ 72057594037927935 (e .if1 .left), le-leb _ 72057594037927935 (g .if2 .left), le-leb _ 72057594037927935 (h .if3 .left), le-leb _ 72057594037927935 (k .if4 .left)) (sym (and-true _))
+
+pub are-bounded-spec : {M : Type 1} → statement M
+are-bounded-spec = tie.close (tie.spec returns returns-2 returns-3 returns-4 returns-5)

@@ -1,0 +1,353 @@
+-- Laws of levels in one array: what may follow what, levels cut by their counts, and one array for one list of levels. Assumes nothing.
+use Prim.Native.Nat.{ℕ, zero, suc, _+_, _-_, _^_, _≤_, _<_}
+use mathlib.Core.Path.{_≡_, refl, sym, ap, _∙_}
+use mathlib.Core.Logic.{_↔_}
+use mathlib.Core.Bool.{Bool, true, false, not, _&&_}
+use mathlib.Core.List.{List, [], _∷_, _++_, map, List·Memᴰ as In}
+use native.Mathlib.Omega.{arith}
+use native.Mathlib.Numerals.{add-one}
+use lib.Dec.{eqb, leb, ltb}
+use borrow.Author.Tests.{leb-true, le-leb, lt-leb, ltb-true, lt-ltb, eqb-true, eq-eqb}
+use lib.ListN.{length, getD, take, drop, replicate, length-map, length-drop, length-replicate, take-append-drop, List·getD-map}
+use lib.Seq.{slice, take-at, drop-at, take-append-seam, length-take-le, take-take}
+use Rattle.lemmas.specs.Lists.{all, chain, join, sum, distinct}
+use Rattle.lemmas.specs.ListLaws.{and-left, and-right, and-true, both, all-in, join-empties}
+use Rattle.lemmas.specs.Slices.{put, parts, part-at, parts-turn, parts-over, length-parts, join-parts, lengths-parts, sum-lengths, put-parts, put-front, put-nil, length-put, drop-replicate}
+use Rattle.lemmas.specs.Fronts.{front-lent}
+use Rattle.lemmas.specs.Loops.{chain-map-broken, chain-map-goes-on, chain-map-ended}
+use Rattle.lemmas.specs.Merge.{all-take, all-drop}
+use Rattle.lemmas.specs.Maps.{join-map, lengths-map, all-join}
+use Rattle.lemmas.specs.Each.{Each, each-take, each-drop, each-put, each-replicate}
+use Rattle.model.specs.Key.{before}
+use Rattle.model.specs.File.{File, full, bySmallest, inOrder, levelwise, goodFile, goodFiles, numbers}
+use Rattle.records.specs.Record.{fileOf, recordOf, blank, vacant, soundRecord, wellRecord, isBlank}
+use Rattle.records.specs.RecordLaws.{past, Shaped, AllShaped, AllWords, sound-list, blank-list, vacant-blank, blank-shaped, well-list, well-list-is, files-of-records, records-well, records-shaped}
+use Rattle.records.specs.Run.{run}
+use Rattle.records.specs.declared.FileRecord.{FileRecord}
+use Rattle.levels.specs.Levels.{follows, levelsOf, laidOut, countsOf, soundLevels, wellLevels}
+
+-- ---- what may follow what
+
+-- at level 0
+pub follows-first : (l : ℕ) (f g : File) → l ≡ 0 → follows l f g ≡ not (bySmallest g f)
+unfolding follows
+follows-first zero f g e = refl
+follows-first (suc l) f g e = absurd (omega arith)
+
+-- deeper
+pub follows-deeper : (l : ℕ) (f g : File) → (l ≡ 0 → ⊥) → follows l f g ≡ before (f .largest) (g .smallest)
+unfolding follows
+follows-deeper zero f g h = absurd (h refl)
+follows-deeper (suc l) f g h = refl
+
+-- a level is in order where each file may follow the one before it
+pub in-order-is : (l : ℕ) (fs : List File) → inOrder l fs ≡ chain (follows l) fs
+unfolding inOrder follows
+in-order-is zero fs = refl
+in-order-is (suc l) fs = refl
+
+-- ---- level after level
+
+module _ (files : List FileRecord) (counts : List ℕ) (l from : ℕ) where
+  -- the levels from one on: its files, and the levels after it
+  pub levels-turn : l < length counts
+      → levelsOf (drop from files) (drop l counts) ≡ run from (from + getD counts l 0) files ∷ levelsOf (drop (from + getD counts l 0) files) (drop (l + 1) counts)
+  unfolding levelsOf run
+  levels-turn h = ap (map (map fileOf)) (parts-turn files counts l from h)
+
+  -- no level is left
+  pub levels-over : length counts ≤ l → levelsOf (drop from files) (drop l counts) ≡ []
+  unfolding levelsOf
+  levels-over h = ap (map (map fileOf)) (parts-over files counts l from h)
+
+  -- the level is in order, and the answer is that of the levels after it
+  pub order-passed : l < length counts → inOrder l (run from (from + getD counts l 0) files) ≡ true
+      → levelwise inOrder l (levelsOf (drop from files) (drop l counts)) ≡ levelwise inOrder (l + 1) (levelsOf (drop (from + getD counts l 0) files) (drop (l + 1) counts))
+  unfolding levelwise
+  order-passed h t = rw (levels-turn h, t, add-one)
+
+  -- it is not
+  pub order-failed : l < length counts → inOrder l (run from (from + getD counts l 0) files) ≡ false
+      → levelwise inOrder l (levelsOf (drop from files) (drop l counts)) ≡ false
+  unfolding levelwise
+  order-failed h t = rw (levels-turn h, t)
+
+  -- all levels are in order
+  pub order-ended : length counts ≤ l → levelwise inOrder l (levelsOf (drop from files) (drop l counts)) ≡ true
+  unfolding levelwise
+  order-ended h = rw (levels-over h)
+
+-- ---- one level, file by file: i is the place of the file that comes next
+
+module _ (l i e : ℕ) (files : List FileRecord) (k : e ≤ length files) where
+  module _ (p : 1 ≤ i) (h : i < e) where
+    abbrev here : follows l (fileOf (getD files (i - 1) past)) (fileOf (getD files i past)) ≡ follows l (fileOf (getD files (i - 1) past)) (fileOf (getD files (i - 1 + 1) past))
+    here = let n : i - 1 + 1 ≡ i = omega arith in rw n
+
+    -- it may not stand there
+    pub next-fails : follows l (fileOf (getD files (i - 1) past)) (fileOf (getD files i past)) ≡ false → inOrder l (run (i - 1) e files) ≡ false
+    unfolding run
+    next-fails t = in-order-is l (run (i - 1) e files) ∙ chain-map-broken fileOf (follows l) (i - 1) e files past (omega arith) k (sym here ∙ t)
+
+    -- it may
+    pub next-follows : follows l (fileOf (getD files (i - 1) past)) (fileOf (getD files i past)) ≡ true → inOrder l (run (i - 1) e files) ≡ inOrder l (run (i + 1 - 1) e files)
+    unfolding run
+    next-follows t =
+        let n : i - 1 + 1 ≡ i + 1 - 1 = omega arith in
+        in-order-is l (run (i - 1) e files) ∙ chain-map-goes-on fileOf (follows l) (i - 1) e files past (omega arith) k (sym here ∙ t)
+        ∙ ap (λ (j : ℕ). chain (follows l) (run j e files)) n ∙ sym (in-order-is l (run (i + 1 - 1) e files))
+
+  -- none is left
+  pub none-next : e ≤ i → inOrder l (run (i - 1) e files) ≡ true
+  unfolding run
+  none-next h = in-order-is l (run (i - 1) e files) ∙ chain-map-ended fileOf (follows l) (i - 1) e files past (omega arith) k
+
+-- ---- the files of all levels
+
+module _ (files : List FileRecord) (counts : List ℕ) where
+  -- as many levels as counts
+  pub levels-number : length (levelsOf files counts) ≡ length counts
+  unfolding levelsOf
+  levels-number = length-map (parts files counts) (map fileOf) ∙ length-parts files counts
+
+  -- the files of all levels are those at the front
+  pub files-of-levels : sum counts ≤ length files → join (levelsOf files counts) ≡ map fileOf (take (sum counts) files)
+  unfolding levelsOf
+  files-of-levels h = join-map fileOf (parts files counts) ∙ ap (map fileOf) (join-parts files counts h)
+
+  -- the counts are the levels' own
+  pub counts-of-levels : sum counts ≤ length files → countsOf (levelsOf files counts) ≡ counts
+  unfolding levelsOf countsOf
+  counts-of-levels h = lengths-map fileOf (parts files counts) ∙ lengths-parts files counts h
+
+  -- a level by its number: the run from where it starts
+  pub level-run : (l : ℕ) → l < length counts → getD (levelsOf files counts) l [] ≡ run (sum (take l counts)) (sum (take l counts) + getD counts l 0) files
+  unfolding levelsOf run
+  level-run l h = List·getD-map (map fileOf) (parts files counts) l [] ∙ ap (map fileOf) (part-at files counts l h)
+
+-- ---- one list of levels, one array
+
+-- what an array of levels has room for: no more files than places, each of them good
+pub record Fits (ls : List (List File)) : Type 0 where
+  pub room : length (join ls) ≤ 256
+  pub good : all (goodFile full) (join ls) ≡ true
+
+-- a good file whose number is one of 64 bits
+abbrev goodWord : File → Bool
+goodWord f = goodFile full f && ltb (f .number) (2 ^ 64)
+
+-- well-formed levels, part by part
+pub record Good (ls : List (List File)) : Type 0 where
+  pub levels : length ls ≡ 7
+  pub fits : Fits ls
+  pub words : (f : File) → In f (join ls) → f .number < 2 ^ 64
+  pub distinct-numbers : distinct (numbers (join ls)) ≡ true
+  pub ordered : levelwise inOrder 0 ls ≡ true
+
+-- the test says just that
+pub good-says : (ls : List (List File)) → goodFiles full ls ≡ true ↔ Good ls
+unfolding goodFiles full
+good-says ls =
+    let a = eqb (length ls) 7 in
+    let b = all goodWord (join ls) in
+    let c = distinct (numbers (join ls)) in
+    let d = leb (length (join ls)) 256 in
+    let e = levelwise inOrder 0 ls in (
+      λ h.
+          let abcd = and-left (a && b && c && d) e h in
+          let abc = and-left (a && b && c) d abcd in
+          let ab = and-left (a && b) c abc in
+          let each = all-in goodWord (join ls) .0 (and-right a b ab) in
+          record {
+            levels = eqb-true (length ls) 7 (and-left a b ab);
+            fits = record {
+              room = leb-true (length (join ls)) 256 (and-right (a && b && c) d abcd);
+              good = all-in (goodFile full) (join ls) .1 (λ f m. and-left (goodFile full f) (ltb (f .number) (2 ^ 64)) (each f m));
+            };
+            words = λ f m. ltb-true (f .number) (2 ^ 64) (and-right (goodFile full f) (ltb (f .number) (2 ^ 64)) (each f m));
+            distinct-numbers = and-right (a && b) c abc;
+            ordered = and-right (a && b && c && d) e h;
+          },
+      λ g.
+          let good : b ≡ true = all-in goodWord (join ls) .1 (λ f m. both (goodFile full f) (ltb (f .number) (2 ^ 64)) (all-in (goodFile full) (join ls) .0 (g .fits .good) f m) (lt-ltb (f .number) (2 ^ 64) (g .words f m))) in
+          both (a && b && c && d) e (both (a && b && c) d (both (a && b) c (both a b (eq-eqb (length ls) 7 (g .levels)) good) (g .distinct-numbers)) (le-leb (length (join ls)) 256 (g .fits .room))) (g .ordered),
+    )
+
+-- the records that are kept of good files stand for them, level by level
+levels-of-records : (ls : List (List File)) → all (all (goodFile full)) ls ≡ true → map (map fileOf) (map (map recordOf) ls) ≡ ls
+unfolding all
+levels-of-records [] h = refl
+levels-of-records (l ∷ ls) h =
+    rw (files-of-records l (and-left (all (goodFile full) l) (all (all (goodFile full)) ls) h), levels-of-records ls (and-right (all (goodFile full) l) (all (all (goodFile full)) ls) h))
+
+module _ (ls : List (List File)) (w : Fits ls) where
+  -- the files together are as many as the counts say
+  pub counts-sum : sum (countsOf ls) ≡ length (join ls)
+  unfolding countsOf
+  counts-sum = sum-lengths ls
+
+  -- the array that holds levels, cut by their counts, is those levels
+  pub held-levels : levelsOf (laidOut ls) (countsOf ls) ≡ ls
+  unfolding levelsOf laidOut countsOf
+  held-levels =
+      let rs = map (map recordOf) ls in
+      ap (λ (l : List FileRecord). map (map fileOf) (parts (put (vacant (full .room)) 0 l) (map length ls))) (sym (join-map recordOf ls))
+      ∙ ap (λ (ns : List ℕ). map (map fileOf) (parts (put (vacant (full .room)) 0 (join rs)) ns)) (sym (lengths-map recordOf ls))
+      ∙ ap (map (map fileOf)) (put-parts (vacant (full .room)) rs)
+      ∙ levels-of-records ls (sym (all-join (goodFile full) ls) ∙ w .good)
+
+  -- it has all its places
+  pub laid-length : length (laidOut ls) ≡ 256
+  unfolding laidOut full vacant
+  laid-length =
+      let r = w .room in
+      length-put (replicate 256 blank) 0 (map recordOf (join ls)) (omega (arith, length-map (join ls) recordOf, length-replicate 256 blank)) ∙ length-replicate 256 blank
+
+  -- the records of the files stand in front
+  pub laid-front : take (sum (countsOf ls)) (laidOut ls) ≡ map recordOf (join ls)
+  unfolding laidOut
+  laid-front =
+      rw (put-front (vacant (full .room)) (map recordOf (join ls)))
+      (take-at (map recordOf (join ls)) (drop (length (map recordOf (join ls))) (vacant (full .room))) (sum (countsOf ls)) (length-map (join ls) recordOf ∙ sym counts-sum))
+
+  -- blank records stand past them
+  pub laid-back : drop (sum (countsOf ls)) (laidOut ls) ≡ vacant (256 - sum (countsOf ls))
+  unfolding laidOut full vacant
+  laid-back =
+      let e : length (map recordOf (join ls)) ≡ sum (countsOf ls) = length-map (join ls) recordOf ∙ sym counts-sum in
+      rw (put-front (replicate 256 blank) (map recordOf (join ls)))
+      (drop-at (map recordOf (join ls)) (drop (length (map recordOf (join ls))) (replicate 256 blank)) (sum (countsOf ls)) e
+      ∙ ap (λ (n : ℕ). drop n (replicate 256 blank)) e ∙ drop-replicate (sum (countsOf ls)) 256 blank)
+
+  -- each record has its keys' room
+  pub laid-shaped : AllShaped (laidOut ls)
+  unfolding laidOut full vacant
+  laid-shaped = each-put Shaped (replicate 256 blank) 0 (map recordOf (join ls)) (each-replicate Shaped 256 blank blank-shaped) (records-shaped (join ls) (w .good))
+
+  -- the array that holds levels is sound
+  pub sound-laid : soundLevels (laidOut ls) (countsOf ls) ≡ true
+  unfolding soundLevels full
+  sound-laid =
+      let n = sum (countsOf ls) in
+      let roomy : n ≤ 256 = rw counts-sum (w .room) in
+      both (leb n 256 && all soundRecord (take n (laidOut ls))) (all isBlank (drop n (laidOut ls)))
+      (both (leb n 256) (all soundRecord (take n (laidOut ls))) (le-leb n 256 roomy)
+      (rw laid-front (well-list (map recordOf (join ls)) (records-well (join ls) (w .good)) .0)))
+      (rw laid-back (vacant-blank (256 - n)))
+
+-- what soundness says
+pub record Sound (files : List FileRecord) (counts : List ℕ) : Type 0 where
+  pub room : sum counts ≤ 256
+  pub records : all soundRecord (take (sum counts) files) ≡ true
+  pub blanks : all isBlank (drop (sum counts) files) ≡ true
+
+pub sound-says : (files : List FileRecord) (counts : List ℕ) → soundLevels files counts ≡ true ↔ Sound files counts
+unfolding soundLevels full
+sound-says files counts =
+    let n = sum counts in
+    let a = leb n 256 in
+    let b = all soundRecord (take n files) in
+    let c = all isBlank (drop n files) in (
+      λ h. record { room = leb-true n 256 (and-left a b (and-left (a && b) c h)); records = and-right a b (and-left (a && b) c h); blanks = and-right (a && b) c h },
+      λ s. both (a && b) c (both a b (le-leb n 256 (s .room)) (s .records)) (s .blanks),
+    )
+
+-- the records of a run of places that hold files are sound
+pub run-sound : (files : List FileRecord) (counts : List ℕ) (from to : ℕ) → to ≤ sum counts → soundLevels files counts ≡ true → all soundRecord (slice from to files) ≡ true
+run-sound files counts from to h s =
+    let e : take to (take (sum counts) files) ≡ take to files = take-take to (sum counts) files h in
+    all-drop soundRecord from (take to files) (sym (ap (all soundRecord) e) ∙ all-take soundRecord to (take (sum counts) files) (sound-says files counts .0 s .records))
+
+-- a sound array is the one that holds its levels
+pub sound-is : (files : List FileRecord) (counts : List ℕ) → length files ≡ 256 → AllShaped files → soundLevels files counts ≡ true
+    → (files ≡ laidOut (levelsOf files counts)) × (counts ≡ countsOf (levelsOf files counts))
+unfolding laidOut full vacant
+sound-is files counts q s h =
+    let t = sound-says files counts .0 h in
+    let n = sum counts in
+    let r = t .room in
+    let fits : n ≤ length files = omega arith in
+    let rs = take n files in
+    let front : rs ≡ map recordOf (join (levelsOf files counts)) =
+    sound-list rs (each-take Shaped n files s) (t .records) ∙ ap (map recordOf) (sym (files-of-levels files counts fits)) in
+    let back : drop n files ≡ replicate (256 - n) blank =
+    blank-list (drop n files) (each-drop Shaped n files s) (t .blanks) ∙ ap (λ (k : ℕ). replicate k blank) (length-drop n files ∙ ap (λ (k : ℕ). k - n) q) in
+    let size : length rs ≡ n = length-take-le n files fits in
+    let whole : files ≡ put (replicate 256 blank) 0 rs =
+    sym (take-append-drop n files) ∙ ap (λ (z : List FileRecord). rs ++ z) (back ∙ sym (drop-replicate n 256 blank) ∙ ap (λ (k : ℕ). drop k (replicate 256 blank)) (sym size))
+    ∙ sym (put-front (replicate 256 blank) rs) in
+    (whole ∙ ap (put (replicate 256 blank) 0) front, sym (counts-of-levels files counts fits))
+
+-- levels with no files: all places are empty
+pub laid-none : (n : ℕ) → laidOut (replicate n []) ≡ vacant 256
+unfolding laidOut full
+laid-none n = ap (λ (fs : List File). put (vacant 256) 0 (map recordOf fs)) (join-empties n) ∙ put-nil (vacant 256) 0
+
+-- ---- well-formed levels
+
+-- what well-formedness says
+pub record Well (files : List FileRecord) (counts : List ℕ) : Type 0 where
+  pub sound : Sound files counts
+  pub good : Good (levelsOf files counts)
+
+pub well-says : (files : List FileRecord) (counts : List ℕ) → wellLevels files counts ≡ true ↔ Well files counts
+unfolding wellLevels
+well-says files counts =
+    let a = soundLevels files counts in
+    let b = goodFiles full (levelsOf files counts) in
+    let sound = sound-says files counts in
+    let good = good-says (levelsOf files counts) in (
+      λ h. record { sound = sound .0 (and-left a b h); good = good .0 (and-right a b h) },
+      λ w. both a b (sound .1 (w .sound)) (good .1 (w .good)),
+    )
+
+-- files with 64-bit numbers are good where they are good
+words-good : (rs : List FileRecord) → AllWords rs → all goodWord (map fileOf rs) ≡ all (goodFile full) (map fileOf rs)
+unfolding all Each fileOf
+words-good [] w = refl
+words-good (r ∷ rs) w = rw (lt-ltb (r .number .0) (2 ^ 64) (w .0), words-good rs (w .1), and-true (goodFile full (fileOf r)))
+
+-- more files than there is room for
+pub too-many : (files : List FileRecord) (counts : List ℕ) → 256 < sum counts → wellLevels files counts ≡ false
+unfolding wellLevels soundLevels full
+too-many files counts h = rw (lt-leb (sum counts) 256 h)
+
+-- the parts of the test, in another order
+regroup : (t a b u c d v e : Bool) → t ≡ true → u ≡ true → v ≡ true → (t && a && b) && (u && c && d && v && e) ≡ (a && c) && b && d && e
+regroup t a b u c d v e p q r = rw (p, q, r) (go a b c d)
+  where
+    go : (a b c d : Bool) → (a && b) && (c && d && true && e) ≡ (a && c) && b && d && e
+    go false b c d = refl
+    go true b false d = nothing b
+      where
+        nothing : (b : Bool) → b && false ≡ false
+        nothing true = refl
+        nothing false = refl
+    go true true true true = refl
+    go true true true false = refl
+    go true false true d = refl
+
+-- where they have room: records, blank places, numbers, order
+pub well-is : (files : List FileRecord) (counts : List ℕ) → length files ≡ 256 → length counts ≡ 7 → AllWords files → sum counts ≤ 256
+    → wellLevels files counts
+    ≡ all wellRecord (take (sum counts) files) && all isBlank (drop (sum counts) files) && distinct (numbers (map fileOf (take (sum counts) files)))
+    && levelwise inOrder 0 (levelsOf files counts)
+unfolding wellLevels soundLevels goodFiles full
+well-is files counts q k w h =
+    let n = sum counts in
+    let rs = take n files in
+    let j : join (levelsOf files counts) ≡ map fileOf rs = files-of-levels files counts (omega arith) in
+    let seven : eqb (length (levelsOf files counts)) 7 ≡ true = eq-eqb (length (levelsOf files counts)) 7 (levels-number files counts ∙ k) in
+    let roomy : leb (length (map fileOf rs)) 256 ≡ true = le-leb (length (map fileOf rs)) 256 (omega (arith, length-map rs fileOf, length-take-le n files (omega arith))) in
+    rw (j, words-good rs (each-take (λ (r : FileRecord). r .number .0 < 2 ^ 64) n files w), well-list-is rs)
+    (regroup (leb n 256) (all soundRecord rs) (all isBlank (drop n files)) (eqb (length (levelsOf files counts)) 7) (all (goodFile full) (map fileOf rs))
+    (distinct (numbers (map fileOf rs))) (leb (length (map fileOf rs)) 256) (levelwise inOrder 0 (levelsOf files counts)) (le-leb n 256 h) seven roomy)
+
+-- the numbers of the first n files, as they are lent from the front of a column
+pub column-is : (n : ℕ) (files : List FileRecord) (d column : List ℕ) → n ≤ length files → column ≡ put d 0 (numbers (run 0 n files)) → take (n - 0) column ≡ numbers (map fileOf (take n files))
+unfolding run numbers
+column-is n files d column h e =
+    let rs = map fileOf (take n files) in
+    let ns = map (λ (f : File). f .number) rs in
+    let size : n ≡ length ns = omega (arith, length-map rs (λ (f : File). f .number), length-map (take n files) fileOf, length-take-le n files h) in
+    front-lent ns column n (sym (ap (take (length ns)) (e ∙ put-front d ns) ∙ take-append-seam ns (drop (length ns) d))) size

@@ -1,0 +1,13 @@
+-- `store::with_counters` meets its contract. Assumes nothing.
+use mathlib.Core.Path.{refl}
+use Rattle.answers.specs.Outcome.{outcomeOf}
+use Rattle.store.specs.Store.{counting}
+use Rattle.store.proofs.with_counters.Statement.{statement}
+use Rattle.store.proofs.with_counters.Tie as tie
+
+returns : tie.Need-returns
+unfolding counting outcomeOf
+returns c = refl
+
+pub with-counters-spec : {M : Type 1} → statement M
+with-counters-spec = tie.close (tie.spec returns)

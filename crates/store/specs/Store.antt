@@ -1,0 +1,87 @@
+-- What a store stands for, and the one store that holds a state. Assumes nothing.
+use Prim.Native.Nat.{ℕ}
+use mathlib.Core.Bool.{Bool, true, false, _&&_, _||_, cond}
+use mathlib.Core.List.{List, [], map}
+use mathlib.Core.Option.{Option, none, some}
+use lib.Dec.{eqb, ltb}
+use Rattle.lemmas.specs.Lists.{all}
+use Rattle.model.specs.Answer.{Answer, gives, refused}
+use Rattle.model.specs.File as model
+use Rattle.model.specs.File.{State, full, wellFormed, maxCounter}
+use Rattle.model.specs.Calls as calls
+use Rattle.answers.specs.Outcome.{outcomeOf}
+use Rattle.keys.specs.Key.{keyOf, keyRecord, soundKey}
+use Rattle.counters.specs.Counters.{countersOf, countersRecord}
+use Rattle.counters.specs.declared.Counters.{Counters}
+use Rattle.levels.specs.Levels.{levelsOf, laidOut, countsOf, soundLevels}
+use Rattle.store.specs.declared.Pointer.{Pointer}
+use Rattle.store.specs.declared.Store.{Store}
+use Rattle.store.specs.declared.Stored.{Stored}
+use Rattle.store.specs.declared.Handed.{Handed}
+
+-- the pointer that a record stands for, and the one record that is kept of it
+unfoldable pub pointerOf : Pointer → Option (List ℕ)
+pointerOf p = cond (p .set) (some (keyOf (p .key))) none
+
+unfoldable pub pointerRecord : Option (List ℕ) → Pointer
+pointerRecord none = record { set = false; key = keyRecord [] }
+pointerRecord (some k) = record { set = true; key = keyRecord k }
+
+-- zeros past the key's end, and no bytes where no pointer is set
+unfoldable pub soundPointer : Pointer → Bool
+soundPointer p = soundKey (p .key) && (p .set || eqb (p .key .len) 0)
+
+-- sound, and its key, where it is set, is one
+unfoldable pub wellPointer : Pointer → Bool
+wellPointer p = soundPointer p && model.goodPointer full (pointerOf p)
+
+-- the state that a store stands for
+unfoldable pub stateOf : Store → State
+stateOf s = record { files = levelsOf (s .files) (s .counts); pointers = map pointerOf (s .pointers); counters = countersOf (s .counters) }
+
+-- the one store that holds a state
+unfoldable pub storeOf : State → Store
+storeOf t = record {
+  files = laidOut (t .files);
+  counts = countsOf (t .files);
+  pointers = map pointerRecord (t .pointers);
+  counters = countersRecord (t .counters);
+}
+
+-- the records of a store are as document 01 has them: room, blank places, zeros past keys' ends, allowed seeks
+unfoldable pub soundStore : Store → Bool
+soundStore s = soundLevels (s .files) (s .counts) && all soundPointer (s .pointers)
+
+-- a well-formed store
+unfoldable pub wellStore : Store → Bool
+wellStore s = soundStore s && wellFormed full (stateOf s)
+
+-- a call on a store: 14 where its records are not sound, else what the call answers for the state
+unfoldable pub onStore : {A : Type 0} → Store → (State → Answer A) → Answer A
+onStore s call = cond (soundStore s) (call (stateOf s)) (refused 14)
+
+-- what a call leaves of the store that was given to it: the store of the new state, or on a refusal the very same
+unfoldable pub leaves : Store → Answer State → Store
+leaves s (gives t) = storeOf t
+leaves s (refused n) = s
+
+-- the answer of a call that gives a store back
+unfoldable pub stored : Store → Answer State → Stored
+stored s a = record { outcome = outcomeOf a; store = leaves s a }
+
+-- the store as it was, with the number of the refusal
+unfoldable pub refusedBy : Store → ℕ → Stored
+refusedBy s n = stored s (refused n)
+
+-- the same store with other counters
+unfoldable pub counting : Store → Counters → Stored
+counting s c = record { outcome = outcomeOf (gives s); store = record { files = s .files; counts = s .counts; pointers = s .pointers; counters = c } }
+
+-- the same store with other counters, one of them set to n: 14 where the store is not well-formed, 9 where n is beyond a counter's bound
+unfoldable pub setting : Store → ℕ → Counters → Stored
+setting s n c = cond (wellStore s) (cond (ltb maxCounter n) (refusedBy s 9) (counting s c)) (refusedBy s 14)
+
+-- the answer of `new`: the number that is handed out, 0 where none is
+unfoldable pub handed : Store → Answer calls.Handed → Handed
+handed s (gives h) = record { outcome = outcomeOf (gives h); number = record { 0 = h .number }; store = storeOf (h .after) }
+handed s (refused n) = record { outcome = outcomeOf {A = calls.Handed} (refused n); number = record { 0 = 0 }; store = s }

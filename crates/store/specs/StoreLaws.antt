@@ -1,0 +1,398 @@
+-- Laws of the store: one state has one sound store, what well-formed says, and what a call on a store answers. Assumes nothing.
+use Prim.Native.Nat.{ℕ, suc, _+_, _≤_, _<_}
+use mathlib.Core.Path.{_≡_, refl, sym, ap, _∙_}
+use mathlib.Core.Logic.{_↔_}
+use mathlib.Core.Bool.{Bool, true, false, _&&_, _||_, cond}
+use mathlib.Core.List.{List, [], _∷_, map}
+use mathlib.Core.Option.{Option, none, some}
+use native.Mathlib.Omega.{arith}
+use native.Mathlib.Numerals.{add-one}
+use lib.Dec.{eqb, ltb}
+use lib.ListN.{length, getD, length-map, List·getD-map}
+use borrow.Author.Tests.{eq-eqb, ne-eqb, le-leb, lt-leb}
+use Rattle.lemmas.specs.Lists.{all}
+use Rattle.lemmas.specs.ListLaws.{and-left, and-right, and-true, both, all-in}
+use Rattle.lemmas.specs.Maps.{all-both}
+use Rattle.lemmas.specs.Each.{Each}
+use Rattle.model.specs.Answer.{Answer, gives, refused, _⇒_, firstOf, onAnswer}
+use Rattle.model.specs.Key.{goodKey}
+use Rattle.model.specs.File as model
+use Rattle.model.specs.File.{State, full, level, wellFormed, goodFiles, goodPointer, goodCounters, maxCounter, setCounters}
+use Rattle.model.specs.Counters.{CounterCall, new, reuse, mark, counted, counterBeyond, counter}
+use Rattle.model.specs.Calls as calls
+use Rattle.model.specs.CounterLaws.{new-is}
+use Rattle.model.specs.Formed.{formed-says}
+use Rattle.answers.specs.declared.Outcome.the-variants.{Done}
+use Rattle.answers.specs.Outcome.{outcomeOf}
+use Rattle.keys.specs.Key.{keyOf, keyRecord, soundKey}
+use Rattle.keys.specs.KeyLaws as key
+use Rattle.counters.specs.Counters.{countersOf, countersRecord}
+use Rattle.counters.specs.declared.Counters.{Counters}
+use Rattle.records.specs.Record.{blankKey}
+use Rattle.records.specs.RecordLaws.{AllShaped, blank-key-is}
+use Rattle.levels.specs.Levels.{levelsOf, laidOut, countsOf, soundLevels, wellLevels}
+use Rattle.levels.specs.LevelsLaws as levels
+use Rattle.store.specs.declared.Pointer.{Pointer}
+use Rattle.store.specs.declared.Store.{Store}
+use Rattle.store.specs.declared.Handed.{Handed}
+use Rattle.store.specs.Store.{pointerOf, pointerRecord, soundPointer, wellPointer, stateOf, storeOf, soundStore, wellStore, onStore, leaves, stored, refusedBy, counting, setting, handed}
+
+-- ---- pointers
+
+-- what is read past an array's end
+abbrev pub past : Pointer
+past = record { set = false; key = record { bytes = []; len = 0 } }
+
+-- a pointer's key has its room
+abbrev pub PointerShaped : Pointer → Type 0
+PointerShaped p = length (p .key .bytes) ≡ 40
+
+-- a sound pointer is the one record that is kept of what it stands for
+pub pointer-is : (p : Pointer) → PointerShaped p → soundPointer p ≡ true → p ≡ pointerRecord (pointerOf p)
+unfolding soundPointer pointerOf pointerRecord blankKey
+pointer-is p q h =
+    let a = soundKey (p .key) in
+    go (p .set) refl (and-left a (p .set || eqb (p .key .len) 0) h) (and-right a (p .set || eqb (p .key .len) 0) h)
+  where
+    go : (t : Bool) → p .set ≡ t → soundKey (p .key) ≡ true → (t || eqb (p .key .len) 0) ≡ true → p ≡ pointerRecord (cond t (some (keyOf (p .key))) none)
+    go true e s w = let k = key.sound-is (p .key) q s in λ i. record { set = e i; key = k i }
+    go false e s w = let k = blank-key-is (p .key) q (both (eqb (p .key .len) 0) (soundKey (p .key)) w s) in λ i. record { set = e i; key = k i }
+
+-- the test of a pointer: of its record, and then of its key where it is set, of the key's length where it is not
+module _ (p : Pointer) where
+  pub pointer-unsound : soundKey (p .key) ≡ false → wellPointer p ≡ false
+  unfolding wellPointer soundPointer
+  pointer-unsound t = rw t
+
+  pub pointer-set : soundKey (p .key) ≡ true → p .set ≡ true → wellPointer p ≡ goodKey (full .longest) (keyOf (p .key))
+  unfolding wellPointer soundPointer pointerOf goodPointer
+  pointer-set t e = rw (t, e)
+
+  pub pointer-unset : soundKey (p .key) ≡ true → p .set ≡ false → wellPointer p ≡ eqb (p .key .len) 0
+  unfolding wellPointer soundPointer pointerOf goodPointer
+  pointer-unset t e = rw (t, e) (and-true (eqb (p .key .len) 0))
+
+-- the record that is kept of a good pointer stands for it, and is sound
+module _ (o : Option (List ℕ)) (g : goodPointer full o ≡ true) where
+  pub pointerOf-record : pointerOf (pointerRecord o) ≡ o
+  unfolding pointerOf pointerRecord goodPointer
+  pointerOf-record = go o g
+    where
+      go : (o : Option (List ℕ)) → goodPointer full o ≡ true → pointerOf (pointerRecord o) ≡ o
+      go none g = refl
+      go (some k) g = ap some (key.keyOf-record k (key.good-length k g))
+
+  pub pointer-record-sound : soundPointer (pointerRecord o) ≡ true
+  unfolding soundPointer pointerRecord goodPointer keyRecord
+  pointer-record-sound = go o g
+    where
+      go : (o : Option (List ℕ)) → goodPointer full o ≡ true → soundPointer (pointerRecord o) ≡ true
+      go none g = both (soundKey (keyRecord [])) (eqb (keyRecord [] .len) 0) (key.record-sound [] (omega arith)) (eq-eqb (keyRecord [] .len) 0 refl)
+      go (some k) g = both (soundKey (keyRecord k)) true (key.record-sound k (key.good-length k g)) refl
+
+  pub pointer-record-shaped : PointerShaped (pointerRecord o)
+  unfolding pointerRecord goodPointer
+  pointer-record-shaped = go o g
+    where
+      go : (o : Option (List ℕ)) → goodPointer full o ≡ true → PointerShaped (pointerRecord o)
+      go none g = key.keyRecord-length [] (omega arith)
+      go (some k) g = key.keyRecord-length k (key.good-length k g)
+
+-- the same of lists of pointers
+pub pointers-are : (ps : List Pointer) → Each PointerShaped ps → all soundPointer ps ≡ true → ps ≡ map pointerRecord (map pointerOf ps)
+unfolding all Each
+pointers-are [] s h = refl
+pointers-are (p ∷ ps) s h =
+    cc (pointer-is p (s .0) (and-left (soundPointer p) (all soundPointer ps) h), pointers-are ps (s .1) (and-right (soundPointer p) (all soundPointer ps) h))
+
+pub pointers-of-records : (os : List (Option (List ℕ))) → all (goodPointer full) os ≡ true → map pointerOf (map pointerRecord os) ≡ os
+unfolding all
+pointers-of-records [] h = refl
+pointers-of-records (o ∷ os) h =
+    rw (pointerOf-record o (and-left (goodPointer full o) (all (goodPointer full) os) h), pointers-of-records os (and-right (goodPointer full o) (all (goodPointer full) os) h))
+
+pub pointer-records-sound : (os : List (Option (List ℕ))) → all (goodPointer full) os ≡ true → all soundPointer (map pointerRecord os) ≡ true
+unfolding all
+pointer-records-sound [] h = refl
+pointer-records-sound (o ∷ os) h =
+    both (soundPointer (pointerRecord o)) (all soundPointer (map pointerRecord os)) (pointer-record-sound o (and-left (goodPointer full o) (all (goodPointer full) os) h))
+    (pointer-records-sound os (and-right (goodPointer full o) (all (goodPointer full) os) h))
+
+pub pointer-records-shaped : (os : List (Option (List ℕ))) → all (goodPointer full) os ≡ true → Each PointerShaped (map pointerRecord os)
+unfolding all Each
+pointer-records-shaped [] h = tt
+pointer-records-shaped (o ∷ os) h =
+    (pointer-record-shaped o (and-left (goodPointer full o) (all (goodPointer full) os) h), pointer-records-shaped os (and-right (goodPointer full o) (all (goodPointer full) os) h))
+
+-- well-formed pointers are sound, and what they stand for is good
+pub pointers-well-is : (ps : List Pointer) → all wellPointer ps ≡ all soundPointer ps && all (goodPointer full) (map pointerOf ps)
+unfolding wellPointer
+pointers-well-is ps = all-both soundPointer (goodPointer full) pointerOf ps
+
+-- ---- one state, one sound store
+
+-- the lengths of a store's arrays
+pub record Shape (s : Store) : Type 0 where
+  pub files : length (s .files) ≡ 256
+  pub records : AllShaped (s .files)
+  pub counts : length (s .counts) ≡ 7
+  pub pointers : length (s .pointers) ≡ 7
+  pub keys : Each PointerShaped (s .pointers)
+
+-- what soundness says
+pub record Sound (s : Store) : Type 0 where
+  pub levels : soundLevels (s .files) (s .counts) ≡ true
+  pub pointers : all soundPointer (s .pointers) ≡ true
+
+pub sound-says : (s : Store) → soundStore s ≡ true ↔ Sound s
+unfolding soundStore
+sound-says s =
+    let a = soundLevels (s .files) (s .counts) in
+    let b = all soundPointer (s .pointers) in (λ h. record { levels = and-left a b h; pointers = and-right a b h }, λ t. both a b (t .levels) (t .pointers))
+
+-- a sound store is the one that holds its state
+pub canonical : (s : Store) → Shape s → soundStore s ≡ true → s ≡ storeOf (stateOf s)
+unfolding storeOf stateOf countersOf countersRecord
+canonical s q h =
+    let t = sound-says s .0 h in
+    let l = levels.sound-is (s .files) (s .counts) (q .files) (q .records) (t .levels) in
+    let p = pointers-are (s .pointers) (q .keys) (t .pointers) in
+    λ i. record { files = l .0 i; counts = l .1 i; pointers = p i; counters = s .counters }
+
+-- any two sound stores of one state are one
+pub two-outcomes : (s s′ : Store) → Shape s → Shape s′ → soundStore s ≡ true → soundStore s′ ≡ true → stateOf s ≡ stateOf s′ → s ≡ s′
+two-outcomes s s′ q q′ h h′ e = canonical s q h ∙ ap storeOf e ∙ sym (canonical s′ q′ h′)
+
+-- what a well-formed state asks of its levels and pointers
+module _ (t : State) (h : wellFormed full t ≡ true) where
+  fits : levels.Fits (t .files)
+  unfolding wellFormed
+  fits =
+      let a = goodFiles full (t .files) in
+      let b = eqb (length (t .pointers)) (full .levels) in
+      let c = all (goodPointer full) (t .pointers) in
+      let d = goodCounters (t .counters) in
+      levels.good-says (t .files) .0 (and-left a b (and-left (a && b) c (and-left (a && b && c) d h))) .fits
+
+  good-pointers : all (goodPointer full) (t .pointers) ≡ true
+  good-pointers = all-in (goodPointer full) (t .pointers) .1 (formed-says full t .0 h .pointers)
+
+  -- the store that holds a well-formed state stands for it, and is sound
+  pub held : (stateOf (storeOf t) ≡ t) × (soundStore (storeOf t) ≡ true)
+  unfolding storeOf stateOf soundStore countersOf countersRecord
+  held =
+      let l = levels.held-levels (t .files) fits in
+      let p = pointers-of-records (t .pointers) good-pointers in (
+        λ i. record { files = l i; pointers = p i; counters = t .counters },
+        both (soundLevels (laidOut (t .files)) (countsOf (t .files))) (all soundPointer (map pointerRecord (t .pointers))) (levels.sound-laid (t .files) fits) (pointer-records-sound (t .pointers) good-pointers),
+      )
+
+  -- its arrays have their lengths
+  pub held-shape : Shape (storeOf t)
+  unfolding storeOf countsOf full
+  held-shape =
+      let w = formed-says full t .0 h in
+      record {
+        files = levels.laid-length (t .files) fits;
+        records = levels.laid-shaped (t .files) fits;
+        counts = length-map (t .files) length ∙ w .levels;
+        pointers = length-map (t .pointers) pointerRecord ∙ w .pointer-levels;
+        keys = pointer-records-shaped (t .pointers) good-pointers;
+      }
+
+  -- and it is well-formed
+  pub held-well : wellStore (storeOf t) ≡ true
+  unfolding wellStore
+  held-well = both (soundStore (storeOf t)) (wellFormed full (stateOf (storeOf t))) (held .1) (rw (held .0) h)
+
+-- ---- well-formed stores
+
+-- what well-formedness says
+pub record Well (s : Store) : Type 0 where
+  pub sound : soundStore s ≡ true
+  pub formed : wellFormed full (stateOf s) ≡ true
+
+pub well-says : (s : Store) → wellStore s ≡ true ↔ Well s
+unfolding wellStore
+well-says s =
+    let a = soundStore s in
+    let b = wellFormed full (stateOf s) in (λ h. record { sound = and-left a b h; formed = and-right a b h }, λ w. both a b (w .sound) (w .formed))
+
+-- the parts of the test, in the order in which they are asked
+regroup : (l p g n q c : Bool) → n ≡ true → (l && p) && (g && n && q && c) ≡ c && (p && q) && (l && g)
+regroup l p g n q c e = rw e (go l p g q c)
+  where
+    go : (l p g q c : Bool) → (l && p) && (g && true && q && c) ≡ c && (p && q) && (l && g)
+    go true true true true true = refl
+    go true true true true false = refl
+    go true true true false true = refl
+    go true true true false false = refl
+    go true true false true true = refl
+    go true true false true false = refl
+    go true true false false true = refl
+    go true true false false false = refl
+    go true false g true true = refl
+    go true false g true false = refl
+    go true false g false true = refl
+    go true false g false false = refl
+    go false true g true true = refl
+    go false true g true false = refl
+    go false true g false true = refl
+    go false true g false false = refl
+    go false false g true true = refl
+    go false false g true false = refl
+    go false false g false true = refl
+    go false false g false false = refl
+
+-- counters, pointers, levels
+pub well-is : (s : Store) → length (s .pointers) ≡ 7
+    → wellStore s ≡ goodCounters (countersOf (s .counters)) && all wellPointer (s .pointers) && wellLevels (s .files) (s .counts)
+unfolding wellStore soundStore wellFormed wellLevels stateOf full
+well-is s q =
+    let seven : eqb (length (map pointerOf (s .pointers))) 7 ≡ true = eq-eqb (length (map pointerOf (s .pointers))) 7 (length-map (s .pointers) pointerOf ∙ q) in
+    rw (pointers-well-is (s .pointers))
+    (regroup (soundLevels (s .files) (s .counts)) (all soundPointer (s .pointers)) (goodFiles full (levelsOf (s .files) (s .counts))) (eqb (length (map pointerOf (s .pointers))) 7)
+    (all (goodPointer full) (map pointerOf (s .pointers))) (goodCounters (countersOf (s .counters))) seven)
+
+-- the levels of a well-formed store are well-formed
+pub well-levels : (s : Store) → wellStore s ≡ true → wellLevels (s .files) (s .counts) ≡ true
+unfolding wellLevels wellFormed stateOf
+well-levels s h =
+    let w = well-says s .0 h in
+    let g = goodFiles full (levelsOf (s .files) (s .counts)) in
+    let p = eqb (length (map pointerOf (s .pointers))) (full .levels) in
+    let q = all (goodPointer full) (map pointerOf (s .pointers)) in
+    let c = goodCounters (countersOf (s .counters)) in
+    both (soundLevels (s .files) (s .counts)) g (sound-says s .0 (w .sound) .levels) (and-left g p (and-left (g && p) q (and-left (g && p && q) c (w .formed))))
+
+-- each of its levels has as many files as its count says
+pub level-count : (s : Store) → wellStore s ≡ true → length (s .files) ≡ 256 → (l : ℕ) → getD (s .counts) l 0 ≡ length (level (stateOf s) l)
+unfolding stateOf level countsOf
+level-count s h q l =
+    let room = levels.well-says (s .files) (s .counts) .0 (well-levels s h) .sound .room in
+    sym (ap (λ (ns : List ℕ). getD ns l 0) (levels.counts-of-levels (s .files) (s .counts) (omega arith)))
+    ∙ List·getD-map length (levelsOf (s .files) (s .counts)) l []
+
+-- ---- calls on a store
+
+-- a call on a well-formed store answers what it answers for the state
+pub onStore-well : {A : Type 0} (s : Store) (call : State → Answer A) → wellStore s ≡ true → onStore s call ≡ call (stateOf s)
+unfolding onStore
+onStore-well s call h = rw (well-says s .0 h .sound)
+
+-- a call that asks first for a well-formed state is refused by 14 on a store that is not
+pub onStore-ill : {A : Type 0} (s : Store) (call : State → Answer A) → (wellFormed full (stateOf s) ≡ false → call (stateOf s) ≡ refused 14) → wellStore s ≡ false
+    → onStore s call ≡ refused 14
+unfolding onStore wellStore
+onStore-ill {A} s call k h = go (soundStore s) h
+  where
+    go : (t : Bool) → (t && wellFormed full (stateOf s)) ≡ false → _≡_ {A = Answer A} (cond t (call (stateOf s)) (refused 14)) (refused 14)
+    go true e = k e
+    go false e = refl
+
+-- the store with other counters holds the state with other counters
+pub other-counters : (s : Store) → Shape s → soundStore s ≡ true → (c : Counters)
+    → record { files = s .files; counts = s .counts; pointers = s .pointers; counters = c } ≡ storeOf (setCounters (stateOf s) (countersOf c))
+unfolding storeOf stateOf setCounters countersOf countersRecord
+other-counters s q h c =
+    let e = canonical s q h in
+    λ i. record { files = e i .files; counts = e i .counts; pointers = e i .pointers; counters = c }
+
+-- ---- the counter calls
+
+-- on a state: not well-formed, beyond a counter's bound, neither
+module _ (t : State) (d : CounterCall) where
+  counter-ill : wellFormed full t ≡ false → counter full t d ≡ refused 14
+  unfolding counter firstOf _⇒_
+  counter-ill h = rw h
+
+  counter-beyond : wellFormed full t ≡ true → counterBeyond d (t .counters) ≡ true → counter full t d ≡ refused 9
+  unfolding counter firstOf _⇒_
+  counter-beyond h b = rw (h, b)
+
+  counter-gives : wellFormed full t ≡ true → counterBeyond d (t .counters) ≡ false → counter full t d ≡ gives (setCounters t (counted d (t .counters)))
+  unfolding counter firstOf _⇒_
+  counter-gives h b = rw (h, b)
+
+-- on a store
+module _ (s : Store) (d : CounterCall) where
+  -- a store that is not well-formed
+  pub count-ill : wellStore s ≡ false → refusedBy s 14 ≡ stored s (onStore s (λ t. counter full t d))
+  unfolding refusedBy
+  count-ill h = ap (stored s) (sym (onStore-ill s (λ t. counter full t d) (counter-ill (stateOf s) d) h))
+
+  -- a counter that would go beyond its bound
+  pub count-beyond : wellStore s ≡ true → counterBeyond d (countersOf (s .counters)) ≡ true → refusedBy s 9 ≡ stored s (onStore s (λ t. counter full t d))
+  unfolding refusedBy stateOf
+  count-beyond h b = ap (stored s) (sym (onStore-well s (λ t. counter full t d) h ∙ counter-beyond (stateOf s) d (well-says s .0 h .formed) b))
+
+  -- else the same store with the counters that the call leaves
+  pub count-done : Shape s → (c : Counters) → wellStore s ≡ true → counterBeyond d (countersOf (s .counters)) ≡ false → countersOf c ≡ counted d (countersOf (s .counters))
+      → counting s c ≡ stored s (onStore s (λ t. counter full t d))
+  unfolding counting stored leaves outcomeOf stateOf
+  count-done q c h b e =
+      let w = well-says s .0 h in
+      let a = onStore-well s (λ t. counter full t d) h ∙ counter-gives (stateOf s) d (w .formed) b in
+      let kept = other-counters s q (w .sound) c ∙ ap (λ (x : model.Counters). storeOf (setCounters (stateOf s) x)) e in
+      (λ i. record { outcome = outcomeOf {A = State} (gives (stateOf s)); store = kept i }) ∙ ap (stored s) (sym a)
+
+-- a setter's answer is that of its call
+pub setting-is : (s : Store) (d : CounterCall) (n : ℕ) (c : Counters) → Shape s → counterBeyond d (countersOf (s .counters)) ≡ ltb maxCounter n
+    → countersOf c ≡ counted d (countersOf (s .counters)) → setting s n c ≡ stored s (onStore s (λ t. counter full t d))
+unfolding setting
+setting-is s d n c q b e = go (wellStore s) refl (ltb maxCounter n) b
+  where
+    go : (w : Bool) → wellStore s ≡ w → (t : Bool) → counterBeyond d (countersOf (s .counters)) ≡ t
+        → cond w (cond t (refusedBy s 9) (counting s c)) (refusedBy s 14) ≡ stored s (onStore s (λ t. counter full t d))
+    go false h t b = count-ill s d h
+    go true h true b = count-beyond s d h b
+    go true h false b = count-done s d q c h b e
+
+-- new hands out next
+module _ (s : Store) where
+  -- the state after it, with the number beside it
+  abbrev with-next : State → calls.Handed
+  with-next t = record { number = s .counters .next .0; after = t }
+
+  new-on : wellStore s ≡ true → onStore s (calls.newNumber full) ≡ onAnswer with-next (counter full (stateOf s) new)
+  unfolding stateOf countersOf
+  new-on h = onStore-well s (calls.newNumber full) h ∙ new-is full (stateOf s)
+
+  pub new-ill : wellStore s ≡ false → handed s (refused 14) ≡ handed s (onStore s (calls.newNumber full))
+  unfolding onAnswer stateOf countersOf
+  new-ill h = ap (handed s) (sym (onStore-ill s (calls.newNumber full) (λ e. new-is full (stateOf s) ∙ ap (onAnswer with-next) (counter-ill (stateOf s) new e)) h))
+
+  pub new-beyond : wellStore s ≡ true → counterBeyond new (countersOf (s .counters)) ≡ true → handed s (refused 9) ≡ handed s (onStore s (calls.newNumber full))
+  unfolding onAnswer stateOf
+  new-beyond h b = ap (handed s) (sym (new-on h ∙ ap (onAnswer with-next) (counter-beyond (stateOf s) new (well-says s .0 h .formed) b)))
+
+  pub new-done : Shape s → (c : Counters) → wellStore s ≡ true → counterBeyond new (countersOf (s .counters)) ≡ false → countersOf c ≡ counted new (countersOf (s .counters))
+      → record { outcome = Done; number = s .counters .next; store = record { files = s .files; counts = s .counts; pointers = s .pointers; counters = c } } ≡ handed s (onStore s (calls.newNumber full))
+  unfolding handed outcomeOf onAnswer stateOf
+  new-done q c h b e =
+      let w = well-says s .0 h in
+      let a = new-on h ∙ ap (onAnswer with-next) (counter-gives (stateOf s) new (w .formed) b) in
+      let kept = other-counters s q (w .sound) c ∙ ap (λ (x : model.Counters). storeOf (setCounters (stateOf s) x)) e in
+      (λ i. record { outcome = Done; number = s .counters .next; store = kept i }) ∙ ap (handed s) (sym a)
+
+-- what mark and reuse leave of next
+module _ (n : ℕ) (c : Counters) where
+  -- the same counters with another next
+  abbrev pub nextIs : ℕ → Counters
+  nextIs m = record { next = record { 0 = m }; manifest = c .manifest; last = c .last; log = c .log; previous = c .previous }
+
+  pub mark-up : c .next .0 ≤ n → countersOf (nextIs (n + 1)) ≡ counted (mark n) (countersOf c)
+  unfolding countersOf counted
+  mark-up h = rw (le-leb (c .next .0) n h, add-one)
+
+  pub mark-kept : n < c .next .0 → countersOf c ≡ counted (mark n) (countersOf c)
+  unfolding countersOf counted
+  mark-kept h = rw (lt-leb (c .next .0) n h)
+
+  pub reuse-down : n + 1 ≡ c .next .0 → countersOf (nextIs n) ≡ counted (reuse n) (countersOf c)
+  unfolding countersOf counted
+  reuse-down h = let e : suc n ≡ c .next .0 = omega arith in rw (eq-eqb (suc n) (c .next .0) e)
+
+  pub reuse-kept : (n + 1 ≡ c .next .0 → ⊥) → countersOf c ≡ counted (reuse n) (countersOf c)
+  unfolding countersOf counted
+  reuse-kept h = rw (ne-eqb (suc n) (c .next .0) (λ e. h (omega arith)))
