@@ -1,0 +1,4 @@
+pub mod Apply
+pub mod BuildLaws
+pub mod EditedLaws
+pub mod ApplyLaws

@@ -1,0 +1,5 @@
+pub mod Builder
+pub mod StayLaws
+pub mod Arrange
+pub mod ArrangeLaws
+pub mod MergeLaws

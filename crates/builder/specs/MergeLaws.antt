@@ -1,0 +1,136 @@
+-- Laws of levels merged level by level: how many records they have, and that under the files that the records stand for they are an edit's survivors. Assumes nothing.
+use Prim.Native.Nat.{ℕ, suc, _+_, _≤_, _<_}
+use mathlib.Core.Path.{_≡_, refl, sym, ap, _∙_}
+use mathlib.Core.Bool.{Bool, true, false, not, cond}
+use mathlib.Core.List.{List, [], _∷_, _++_, map, map-append, List·Memᴰ as In, Memᴰ·append-left as in-left, Memᴰ·append-right as in-right}
+use native.Mathlib.Omega.{arith}
+use lib.Dec.{eqb}
+use lib.ListN.{length, getD, take, drop, length-append}
+use lib.Seq.{slice, take-length}
+use Rattle.lemmas.specs.Lists.{push, keep, chain, join, sort, upFrom}
+use Rattle.lemmas.specs.ListLaws.{and-left, and-right, sub-keep, sub-in}
+use Rattle.lemmas.specs.Slices.{parts, parts-turn, parts-over}
+use Rattle.lemmas.specs.Maps.{chain-map, sort-map, keep-map, keep-same, sort-sorted}
+use Rattle.lemmas.specs.Merge.{merge, merge-length, sort-append}
+use Rattle.model.specs.Key.{before}
+use Rattle.model.specs.File.{File, full, bySmallest, inOrder, levelwise}
+use Rattle.model.specs.Edit.{Addition, Edit, added, leftDeleted, survivors, survivorsFrom}
+use Rattle.model.specs.Formed.{levels-sorted}
+use Rattle.model.specs.PickedLaws.{sub-ordered}
+use Rattle.records.specs.declared.FileRecord.{FileRecord}
+use Rattle.records.specs.Record.{fileOf}
+use Rattle.builder.specs.Builder.{stayersFrom, recordBefore, atLevel, sortedLevels, areLevels, merges}
+use Rattle.builder.specs.ArrangeLaws.{record-order, front-length}
+
+-- ---- levels merged level by level
+
+-- as many levels as the first list has
+pub merges-levels : (as′ bs : List (List FileRecord)) → length (merges as′ bs) ≡ length as′
+unfolding merges
+merges-levels [] bs = refl
+merges-levels (a ∷ as′) [] = ap suc (merges-levels as′ [])
+merges-levels (a ∷ as′) (b ∷ bs) = ap suc (merges-levels as′ bs)
+
+-- as many records as both have
+pub merges-length : (as′ bs : List (List FileRecord)) → length as′ ≡ length bs → length (join (merges as′ bs)) ≡ length (join as′) + length (join bs)
+unfolding merges join
+merges-length [] [] h = refl
+merges-length [] (b ∷ bs) h = absurd (omega arith)
+merges-length (a ∷ as′) [] h = absurd (omega arith)
+merges-length (a ∷ as′) (b ∷ bs) h =
+    omega (arith, merges-length as′ bs (omega arith), merge-length recordBefore a b, length-append (merge recordBefore a b) (join (merges as′ bs)), length-append a (join as′), length-append b (join bs))
+
+-- the levels from one on of two arrays
+module _ (files news : List FileRecord) (counts counts′ : List ℕ) (level i j : ℕ) where
+  pub merges-turn : level < length counts → level < length counts′
+      → merges (parts (drop i files) (drop level counts)) (parts (drop j news) (drop level counts′))
+      ≡ merge recordBefore (slice i (i + getD counts level 0) files) (slice j (j + getD counts′ level 0) news)
+      ∷ merges (parts (drop (i + getD counts level 0) files) (drop (level + 1) counts)) (parts (drop (j + getD counts′ level 0) news) (drop (level + 1) counts′))
+  unfolding merges
+  merges-turn h g = rw (parts-turn files counts level i h, parts-turn news counts′ level j g)
+
+  -- no level is left
+  pub merges-over : length counts ≤ level → merges (parts (drop i files) (drop level counts)) (parts (drop j news) (drop level counts′)) ≡ []
+  unfolding merges
+  merges-over h = rw (parts-over files counts level i h)
+
+-- ---- under the files that the records stand for
+
+-- additions merged into what stays, which is in order by smallest key: both sorted, what stays first on equal keys
+pub merge-sorts : (kept new : List FileRecord) → chain (λ a b. not (recordBefore b a)) kept ≡ true → merge recordBefore kept (sort recordBefore new) ≡ sort recordBefore (kept ++ new)
+merge-sorts kept new h =
+    ap (λ (z : List FileRecord). merge recordBefore z (sort recordBefore new)) (sym (sort-sorted recordBefore kept h)) ∙ sym (sort-append recordBefore record-order kept new)
+
+-- the same of files
+pub merge-files : (kept new : List FileRecord) → chain (λ f g. not (bySmallest g f)) (map fileOf kept) ≡ true
+    → map fileOf (merge recordBefore kept (sort recordBefore new)) ≡ sort bySmallest (map fileOf kept ++ map fileOf new)
+unfolding recordBefore
+merge-files kept new h =
+    ap (map fileOf) (merge-sorts kept new (sym (chain-map fileOf (λ f g. not (bySmallest g f)) kept) ∙ h))
+    ∙ sym (sort-map fileOf bySmallest (kept ++ new))
+    ∙ ap (sort bySmallest) (map-append fileOf kept new)
+
+-- the records beside a level in the columns of an edit's additions are the files that it adds there
+pub added-at : (l : ℕ) (new : List Addition) (ks : List ℕ) (rs : List FileRecord) → ks ≡ map (λ (a : Addition). a .level) new → map fileOf rs ≡ map (λ (a : Addition). a .file) new
+    → map fileOf (atLevel l ks rs) ≡ map (λ (a : Addition). a .file) (keep (λ a. eqb (a .level) l) new)
+unfolding atLevel keep push
+added-at l [] ks rs e f = rw e
+added-at l (a ∷ new) ks [] e f = absurd (omega (arith, ap length f))
+added-at l (a ∷ new) ks (r ∷ rs) e f =
+    let first : fileOf r ≡ a .file = cc in
+    let rest : map fileOf rs ≡ map (λ (a : Addition). a .file) new = cc in
+    rw e (go (eqb (a .level) l) first (added-at l new (map (λ (a : Addition). a .level) new) rs refl rest))
+  where
+    go : (t : Bool) → fileOf r ≡ a .file
+        → map fileOf (atLevel l (map (λ (a : Addition). a .level) new) rs) ≡ map (λ (a : Addition). a .file) (keep (λ a. eqb (a .level) l) new)
+        → map fileOf (cond t (r ∷ atLevel l (map (λ (a : Addition). a .level) new) rs) (atLevel l (map (λ (a : Addition). a .level) new) rs))
+        ≡ map (λ (a : Addition). a .file) (push t a (keep (λ a. eqb (a .level) l) new))
+    go true p ih = rw (p, ih)
+    go false p ih = ih
+
+-- ---- an edit's survivors: what stays by a test that says what is left deleted, merged with the additions in order
+module _ (e : Edit) (test : ℕ → ℕ → Bool) (same : (l n : ℕ) → test l n ≡ not (leftDeleted e l n)) (ks : List ℕ) (rs : List FileRecord)
+    (levels : ks ≡ map (λ (a : Addition). a .level) (e .additions)) (files : map fileOf rs ≡ map (λ (a : Addition). a .file) (e .additions)) where
+  -- the records that stay are the files not left deleted
+  kept-files : (l : ℕ) (fs : List FileRecord) → map fileOf (keep (λ r. test l (r .number .0)) fs) ≡ keep (λ f. not (leftDeleted e l (f .number))) (map fileOf fs)
+  unfolding fileOf
+  kept-files l fs =
+      ap (map fileOf) (keep-same (λ r. test l (r .number .0)) (λ r. not (leftDeleted e l (fileOf r .number))) fs (λ r m. same l (r .number .0)))
+      ∙ sym (keep-map fileOf (λ f. not (leftDeleted e l (f .number))) fs)
+
+  -- of one level
+  level-merged : (l : ℕ) (fs : List FileRecord) → ((f : File) → In f (map fileOf fs) → before (f .largest) (f .smallest) ≡ false) → inOrder l (map fileOf fs) ≡ true
+      → map fileOf (merge recordBefore (keep (λ r. test l (r .number .0)) fs) (sort recordBefore (atLevel l ks rs))) ≡ survivors e l (map fileOf fs)
+  unfolding survivors added
+  level-merged l fs good h =
+      let stay : File → Bool = λ f. not (leftDeleted e l (f .number)) in
+      let part = sub-keep stay (map fileOf fs) in
+      let order : chain (λ f g. not (bySmallest g f)) (keep stay (map fileOf fs)) ≡ true = levels-sorted l (keep stay (map fileOf fs)) (λ f m. good f (sub-in f part m)) (sub-ordered l good part h) in
+      merge-files (keep (λ r. test l (r .number .0)) fs) (atLevel l ks rs) (rw (kept-files l fs) order)
+      ∙ rw (kept-files l fs, added-at l (e .additions) ks rs levels files)
+
+  -- of the levels from one on
+  levels-merged : (l : ℕ) (ls : List (List FileRecord)) → ((f : File) → In f (join (map (map fileOf) ls)) → before (f .largest) (f .smallest) ≡ false)
+      → levelwise inOrder l (map (map fileOf) ls) ≡ true
+      → map (map fileOf) (merges (stayersFrom test l ls) (map (λ l. sort recordBefore (atLevel l ks rs)) (upFrom l (length ls)))) ≡ survivorsFrom e l (map (map fileOf) ls)
+  unfolding merges stayersFrom survivorsFrom upFrom levelwise join
+  levels-merged l [] good h = refl
+  levels-merged l (fs ∷ ls) good h =
+      let a = inOrder l (map fileOf fs) in
+      let b = levelwise inOrder (suc l) (map (map fileOf) ls) in
+      cc (level-merged l fs (λ f m. good f (in-left (join (map (map fileOf) ls)) m)) (and-left a b h), levels-merged (suc l) ls (λ f m. good f (in-right (map fileOf fs) m)) (and-right a b h))
+
+  -- of all levels
+  pub survivors-merged : (ls : List (List FileRecord)) → length ls ≡ full .levels → ((f : File) → In f (join (map (map fileOf) ls)) → before (f .largest) (f .smallest) ≡ false)
+      → levelwise inOrder 0 (map (map fileOf) ls) ≡ true → map (map fileOf) (merges (stayersFrom test 0 ls) (sortedLevels ks rs)) ≡ survivorsFrom e 0 (map (map fileOf) ls)
+  unfolding sortedLevels
+  survivors-merged ls n good h =
+      ap (λ (k : ℕ). map (map fileOf) (merges (stayersFrom test 0 ls) (map (λ l. sort recordBefore (atLevel l ks rs)) (upFrom 0 k)))) (sym n) ∙ levels-merged 0 ls good h
+
+-- as many records in order as there are additions
+pub sorted-length : (ks : List ℕ) (rs : List FileRecord) → areLevels ks ≡ true → length ks ≡ length rs → length (join (sortedLevels ks rs)) ≡ length rs
+sorted-length ks rs h e =
+    let l : take (length rs) ks ≡ ks = ap (λ (n : ℕ). take n ks) (sym e) ∙ take-length ks in
+    let r : take (length rs) rs ≡ rs = take-length rs in
+    ap (λ (z : List ℕ). length (join (sortedLevels z rs))) (sym l) ∙ ap (λ (z : List FileRecord). length (join (sortedLevels (take (length rs) ks) z))) (sym r)
+    ∙ front-length ks rs (length rs) h (omega arith) (omega arith)
