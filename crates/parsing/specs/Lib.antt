@@ -1,0 +1,4 @@
+pub mod Parsing
+pub mod ParsingLaws
+pub mod OrderLaws
+pub mod BackLaws

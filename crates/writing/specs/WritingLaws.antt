@@ -1,0 +1,404 @@
+-- Laws of snapshots in lent bytes: what each writer lays down, how long it is, and what a well-formed store's snapshot is. Assumes nothing.
+use Prim.Native.Nat.{ℕ, _+_, _*_, _≤_, _<_, min}
+use mathlib.Core.Path.{_≡_, refl, sym, ap, _∙_}
+use mathlib.Core.Bool.{true, false, _&&_, _||_}
+use mathlib.Core.List.{List, [], _∷_, _++_, map, map-append, map-map, append-assoc, append-nil, List·Memᴰ as In}
+use native.Mathlib.Omega.{arith}
+use native.Mathlib.Numerals.{add-one}
+use lib.Dec.{eqb, leb}
+use borrow.Author.Tests.{leb-true, lt-ltb, le-ltb}
+use lib.ListN.{length, getD, take, drop, length-append, length-map, drop-of-length-le, List·getD-map}
+use lib.Seq.{slice, length-take-le, take-all, getD-take}
+use Rattle.lemmas.specs.Lists.{all, sort, join, sum, upFrom}
+use Rattle.lemmas.specs.ListLaws.{and-left, and-right, both, sort-in, sort-length, getD-in, upFrom-in}
+use Rattle.lemmas.specs.Little.{bytes, bytes-length}
+use Rattle.lemmas.specs.Slices.{put, put-whole, put-front, rest-cons, join-append, take-map, drop-map, take-drop, at-view, length-view}
+use Rattle.lemmas.specs.UpFrom.{upFrom-length}
+use Rattle.lemmas.specs.Merge.{all-at, front-laid}
+use Rattle.lemmas.specs.Maps.{map-same-in, sort-same}
+use Rattle.lemmas.specs.Laying.{put-next, sorted-length, sorted-places, map-places}
+use Rattle.model.specs.Answer.{Answer, gives, refused, firstOf, _⇒_, lent}
+use Rattle.model.specs.File.{File, State, full, level, numbers, wellFormed, goodFile, goodCounters, goodPointer}
+use Rattle.model.specs.Calls as calls
+use Rattle.model.specs.Formed.{formed-says}
+use Rattle.model.specs.Snapshot.{byNumber, writeKey, writeFile, Entry, entries, writeEntry, section, writeLevel, fiveOf, encode}
+use Rattle.model.specs.SnapshotLaws.{section-length, writeKey-length, writeFile-length, writeEntry-length, encode-most}
+use Rattle.keys.specs.declared.Key.{Key}
+use Rattle.keys.specs.Key.{keyOf, isZero, sound, soundKey}
+use Rattle.keys.specs.KeyLaws.{held-in}
+use Rattle.counters.specs.Counters.{countersOf}
+use Rattle.records.specs.declared.FileRecord.{FileRecord}
+use Rattle.records.specs.Record.{fileOf, soundRecord, wellRecord}
+use Rattle.records.specs.RecordLaws as records
+use Rattle.records.specs.Run.{run}
+use Rattle.levels.specs.Levels.{levelsOf, wellLevels}
+use Rattle.levels.specs.LevelsLaws as levels
+use Rattle.sorting.specs.Sorting.{byNumberAt}
+use Rattle.store.specs.declared.Pointer.{Pointer}
+use Rattle.store.specs.declared.Store.{Store}
+use Rattle.store.specs.Store.{pointerOf, soundPointer, wellPointer, stateOf, wellStore}
+use Rattle.store.specs.StoreLaws as store
+use Rattle.writing.specs.Writing.{writtenOf, snapshotOf}
+use Rattle.writing.specs.declared.Written.the-variants.{Bytes, Refused}
+
+-- ---- keys
+
+-- a key of a sound record is within its room
+pub sound-short : (k : Key) → soundKey k ≡ true → k .len ≤ 40
+unfolding soundKey sound
+sound-short k s = leb-true (k .len) 40 (and-left (leb (k .len) 40) (all isZero (drop (k .len) (k .bytes))) s)
+
+-- it has as many bytes as its length says
+pub key-long : (k : Key) → length (k .bytes) ≡ 40 → k .len ≤ 40 → length (keyOf k) ≡ k .len
+unfolding keyOf
+key-long k q h = rw (held-in 40 (k .bytes) (k .len) h) (length-take-le (k .len) (k .bytes) (omega arith))
+
+-- ---- files
+
+-- the keys of a well-formed record are within their room
+pub record-short : (r : FileRecord) → wellRecord r ≡ true → (r .smallest .len ≤ 40) × (r .largest .len ≤ 40)
+record-short r h =
+    let s = records.sound-says r .0 (records.well-says r .0 h .0) in
+    (sound-short (r .smallest) (s .smallest), sound-short (r .largest) (s .largest))
+
+-- 16 bytes and what is written of the keys
+pub writeFile-parts : (f : File) → length (writeFile f) ≡ 16 + length (writeKey (f .smallest)) + length (writeKey (f .largest))
+writeFile-parts f = omega (arith, writeFile-length f, writeKey-length (f .smallest), writeKey-length (f .largest))
+
+-- the four parts of a file, one after another
+pub file-laid : (f : File) (out o₁ o₂ o₃ o₄ : List ℕ) (at next : ℕ) → at + length (writeFile f) ≤ length out → o₁ ≡ put out at (bytes 8 (f .number)) → o₂ ≡ put o₁ (at + 8) (bytes 8 (f .size))
+    → o₃ ≡ put o₂ (at + 16) (writeKey (f .smallest)) → next ≡ at + 16 + length (writeKey (f .smallest)) → o₄ ≡ put o₃ next (writeKey (f .largest)) → o₄ ≡ put out at (writeFile f)
+unfolding writeFile
+file-laid f out o₁ o₂ o₃ o₄ at next h e₁ e₂ e₃ e e₄ =
+    let a = bytes 8 (f .number) in
+    let b = bytes 8 (f .size) in
+    let k = writeKey (f .smallest) in
+    let la = bytes-length 8 (f .number) in
+    let lb = bytes-length 8 (f .size) in
+    let lab = length-append a b in
+    let labk = length-append (a ++ b) k in
+    let all-parts = length-append (a ++ b ++ k) (writeKey (f .largest)) in
+    let two = put-next out o₁ o₂ at (at + 8) a b (omega arith) e₁ (omega arith) e₂ in
+    let three = put-next out o₂ o₃ at (at + 16) (a ++ b) k (omega arith) two (omega arith) e₃ in
+    put-next out o₃ o₄ at next (a ++ b ++ k) (writeKey (f .largest)) (omega arith) three (omega arith) e₄
+
+-- ---- counters
+
+-- the six numbers of the section
+counters-is : (a b c d e : ℕ) → bytes 2 5 ++ bytes 8 a ++ bytes 8 b ++ bytes 8 c ++ bytes 8 d ++ bytes 8 e ≡ section (bytes 8) (a ∷ b ∷ c ∷ d ∷ e ∷ [])
+unfolding section join
+counters-is a b c d e = simp (append-assoc, append-nil)
+
+-- they are laid down one after another
+pub counters-laid : (out o₁ o₂ o₃ o₄ o₅ o₆ : List ℕ) (at a b c d e : ℕ) → at + 42 ≤ length out → o₁ ≡ put out at (bytes 2 5) → o₂ ≡ put o₁ (at + 2) (bytes 8 a) → o₃ ≡ put o₂ (at + 10) (bytes 8 b)
+    → o₄ ≡ put o₃ (at + 18) (bytes 8 c) → o₅ ≡ put o₄ (at + 26) (bytes 8 d) → o₆ ≡ put o₅ (at + 34) (bytes 8 e) → o₆ ≡ put out at (section (bytes 8) (a ∷ b ∷ c ∷ d ∷ e ∷ []))
+counters-laid out o₁ o₂ o₃ o₄ o₅ o₆ at a b c d e h e₁ e₂ e₃ e₄ e₅ e₆ =
+    let x₁ = bytes 2 5 in
+    let x₂ = x₁ ++ bytes 8 a in
+    let x₃ = x₂ ++ bytes 8 b in
+    let x₄ = x₃ ++ bytes 8 c in
+    let x₅ = x₄ ++ bytes 8 d in
+    let n₁ : length x₁ ≡ 2 = bytes-length 2 5 in
+    let n₂ : length x₂ ≡ 10 = omega (arith, length-append x₁ (bytes 8 a), bytes-length 8 a) in
+    let n₃ : length x₃ ≡ 18 = omega (arith, length-append x₂ (bytes 8 b), bytes-length 8 b) in
+    let n₄ : length x₄ ≡ 26 = omega (arith, length-append x₃ (bytes 8 c), bytes-length 8 c) in
+    let n₅ : length x₅ ≡ 34 = omega (arith, length-append x₄ (bytes 8 d), bytes-length 8 d) in
+    let l₂ = put-next out o₁ o₂ at (at + 2) x₁ (bytes 8 a) (omega arith) e₁ (omega arith) e₂ in
+    let l₃ = put-next out o₂ o₃ at (at + 10) x₂ (bytes 8 b) (omega arith) l₂ (omega arith) e₃ in
+    let l₄ = put-next out o₃ o₄ at (at + 18) x₃ (bytes 8 c) (omega arith) l₃ (omega arith) e₄ in
+    let l₅ = put-next out o₄ o₅ at (at + 26) x₄ (bytes 8 d) (omega arith) l₄ (omega arith) e₅ in
+    put-next out o₅ o₆ at (at + 34) x₅ (bytes 8 e) (omega arith) l₅ (omega arith) e₆ ∙ ap (put out at) (counters-is a b c d e)
+
+-- ---- pointers
+
+-- the key of a well-formed pointer is within its room
+pub pointer-short : (p : Pointer) → wellPointer p ≡ true → p .key .len ≤ 40
+unfolding wellPointer soundPointer
+pointer-short p h =
+    let a = soundKey (p .key) in
+    let b = p .set || eqb (p .key .len) 0 in
+    sound-short (p .key) (and-left a b (and-left (a && b) (goodPointer full (pointerOf p)) h))
+
+-- a byte and what is written of the key
+pub writeEntry-parts : (e : Entry) → length (writeEntry e) ≡ 1 + length (writeKey (e .key))
+writeEntry-parts e = omega (arith, writeEntry-length e, writeKey-length (e .key))
+
+-- the level and the key of a pointer, one after another
+pub entry-laid : (e : Entry) (out o₁ o₂ : List ℕ) (at : ℕ) → at + length (writeEntry e) ≤ length out → o₁ ≡ put out at (bytes 1 (e .level)) → o₂ ≡ put o₁ (at + 1) (writeKey (e .key))
+    → o₂ ≡ put out at (writeEntry e)
+unfolding writeEntry
+entry-laid e out o₁ o₂ at h e₁ e₂ =
+    let one = bytes-length 1 (e .level) in
+    let both-parts = length-append (bytes 1 (e .level)) (writeKey (e .key)) in
+    put-next out o₁ o₂ at (at + 1) (bytes 1 (e .level)) (writeKey (e .key)) (omega arith) e₁ (omega arith) e₂
+
+-- the count and the parts of a section, one after another
+pub section-laid : {A : Type 0} (w : A → List ℕ) (xs : List A) (out o₁ o₂ : List ℕ) (at : ℕ) → at + length (section w xs) ≤ length out → o₁ ≡ put out at (bytes 2 (length xs)) → o₂ ≡ put o₁ (at + 2) (join (map w xs))
+    → o₂ ≡ put out at (section w xs)
+unfolding section
+section-laid w xs out o₁ o₂ at h e₁ e₂ =
+    let two = bytes-length 2 (length xs) in
+    let both-parts = length-append (bytes 2 (length xs)) (join (map w xs)) in
+    put-next out o₁ o₂ at (at + 2) (bytes 2 (length xs)) (join (map w xs)) (omega arith) e₁ (omega arith) e₂
+
+-- the pointers that are set, from level i on
+abbrev pub setFrom : ℕ → List Pointer → List Entry
+setFrom i ps = entries i (map pointerOf (drop i ps))
+
+module _ (ps : List Pointer) (i : ℕ) where
+  -- the level's own is one of them
+  pub set-here : i < length ps → getD ps i store.past .set ≡ true → setFrom i ps ≡ record { level = i; key = keyOf (getD ps i store.past .key) } ∷ setFrom (i + 1) ps
+  unfolding entries pointerOf
+  set-here h t = rw (rest-cons ps i store.past h, t, add-one)
+
+  -- it is none
+  pub set-later : i < length ps → getD ps i store.past .set ≡ false → setFrom i ps ≡ setFrom (i + 1) ps
+  unfolding entries pointerOf
+  set-later h t = rw (rest-cons ps i store.past h, t, add-one)
+
+  -- no level is left
+  pub set-over : length ps ≤ i → setFrom i ps ≡ []
+  unfolding entries
+  set-over h = rw (drop-of-length-le ps h)
+
+-- ---- levels
+
+-- what is written of the files at the places from j up to n, which count from the first file of a run
+abbrev pub atPlaces : List FileRecord → ℕ → List ℕ → ℕ → ℕ → List (List ℕ)
+atPlaces files from places j n = map (λ p. writeFile (fileOf (getD files (from + p) records.past))) (slice j n places)
+
+-- what is written of the levels from one on, whose files start at a place
+abbrev pub levelsFrom : List FileRecord → List ℕ → ℕ → ℕ → List (List ℕ)
+levelsFrom files counts from l = map writeLevel (levelsOf (drop from files) (drop l counts))
+
+-- a section of files
+pub level-long : (fs : List File) → length (writeLevel fs) ≡ 2 + length (join (map writeFile fs))
+unfolding writeLevel section
+level-long fs =
+    let gs = sort byNumber fs in
+    omega (arith, length-append (bytes 2 (length gs)) (join (map writeFile gs)), bytes-length 2 (length gs), sorted-length writeFile byNumber fs)
+
+-- all levels: two bytes each, and their files
+pub levels-long : (ls : List (List File)) → length (join (map writeLevel ls)) ≡ 2 * length ls + length (join (map writeFile (join ls)))
+unfolding join
+levels-long [] = refl
+levels-long (l ∷ ls) =
+    let split = map-append writeFile l (join ls) in
+    omega (
+      arith,
+      length-append (writeLevel l) (join (map writeLevel ls)),
+      level-long l,
+      levels-long ls,
+      ap (λ (xs : List (List ℕ)). length (join xs)) split,
+      ap length (join-append (map writeFile l) (map writeFile (join ls))),
+      length-append (join (map writeFile l)) (join (map writeFile (join ls))),
+    )
+
+-- the numbers of a run, as they are lent from the column of all numbers
+pub lent-numbers : (files : List FileRecord) (zeros column : List ℕ) (from n : ℕ) → length files ≡ 256 → length zeros ≡ 256 → column ≡ put zeros 0 (numbers (run 0 256 files))
+    → take n (drop from column) ≡ numbers (run from (from + n) files)
+unfolding numbers run
+lent-numbers files zeros column from n q z e =
+    let number : File → ℕ = λ f. f .number in
+    let fs = map fileOf files in
+    let room : length (map number fs) ≡ length zeros = omega (arith, length-map fs number, length-map files fileOf) in
+    let whole : column ≡ map number fs =
+    e ∙ ap (λ (rs : List FileRecord). put zeros 0 (map number (map fileOf rs))) (take-all 256 files (omega arith)) ∙ put-whole zeros (map number fs) room in
+    ap (λ (ns : List ℕ). take n (drop from ns)) whole
+    ∙ ap (take n) (drop-map number from fs ∙ ap (map number) (drop-map fileOf from files))
+    ∙ take-map number n (map fileOf (drop from files))
+    ∙ ap (map number) (take-map fileOf n (drop from files))
+    ∙ ap (λ (rs : List FileRecord). map number (map fileOf rs)) (take-drop from n files)
+
+-- a run of n files, and their places in the order of their numbers
+module _ (files : List FileRecord) (from n : ℕ) (h : from + n ≤ length files) where
+  pub run-size : length (run from (from + n) files) ≡ n
+  unfolding run
+  run-size = omega (arith, length-view fileOf from (from + n) files h)
+
+  -- what is written of them: their count, then each of them by rising number
+  pub level-is : writeLevel (run from (from + n) files) ≡ bytes 2 n ++ join (map writeFile (sort byNumber (run from (from + n) files)))
+  unfolding writeLevel section
+  level-is =
+      let size : length (sort byNumber (run from (from + n) files)) ≡ n = sort-length byNumber (run from (from + n) files) ∙ run-size in
+      rw size
+
+  -- ns are their numbers
+  module _ (ns : List ℕ) (e : ns ≡ numbers (run from (from + n) files)) where
+    -- a place of the run
+    in-run : (p : ℕ) → In p (sort (byNumberAt ns) (upFrom 0 n)) → p < n
+    in-run p m = omega (arith, upFrom-in 0 n p .0 (sort-in (byNumberAt ns) (upFrom 0 n) p .0 m) .1)
+
+    -- the files at the sorted places are the files by rising number
+    pub sorted-run : map (λ p. fileOf (getD files (from + p) records.past)) (sort (byNumberAt ns) (upFrom 0 n)) ≡ sort byNumber (run from (from + n) files)
+    unfolding run numbers byNumberAt byNumber fileOf
+    sorted-run =
+        let fs = map fileOf (slice from (from + n) files) in
+        let d = fileOf records.past in
+        let at : (i : ℕ) → getD ns i 0 ≡ getD fs i d .number = λ i. ap (λ (l : List ℕ). getD l i 0) e ∙ List·getD-map (λ (f : File). f .number) fs i d in
+        map-same-in (λ p. fileOf (getD files (from + p) records.past)) (λ p. getD fs p d) (sort (byNumberAt ns) (upFrom 0 n))
+        (λ p m. let b = in-run p m in sym (at-view fileOf from (from + n) files p records.past d (omega arith) h))
+        ∙ ap (map (λ p. getD fs p d)) (sort-same (byNumberAt ns) (λ i j. byNumber (getD fs i d) (getD fs j d)) (λ i j. rw (at i, at j)) (upFrom 0 n))
+        ∙ ap (λ (k : ℕ). map (λ p. getD fs p d) (sort (λ i j. byNumber (getD fs i d) (getD fs j d)) (upFrom 0 k))) (sym run-size)
+        ∙ sorted-places byNumber fs d
+
+    -- the places as they stand at the front of an array
+    module _ (zeros places : List ℕ) (g : n ≤ 256) (f : places ≡ put zeros 0 (sort (byNumberAt ns) (upFrom 0 (min 256 (length ns))))) where
+      front : take n places ≡ sort (byNumberAt ns) (upFrom 0 n)
+      unfolding numbers
+      front =
+          let all-here : min 256 (length ns) ≡ n = omega (arith, ap length e, length-map (run from (from + n) files) (λ (f : File). f .number), run-size) in
+          let size : length (sort (byNumberAt ns) (upFrom 0 n)) ≡ n = sort-length (byNumberAt ns) (upFrom 0 n) ∙ upFrom-length 0 n in
+          front-laid zeros places (sort (byNumberAt ns) (upFrom 0 n)) n size (f ∙ ap (λ (k : ℕ). put zeros 0 (sort (byNumberAt ns) (upFrom 0 k))) all-here)
+
+      -- what is written of the files at those places
+      pub places-written : atPlaces files from places 0 n ≡ map writeFile (sort byNumber (run from (from + n) files))
+      places-written =
+          sym (map-map writeFile (λ p. fileOf (getD files (from + p) records.past)) (take n places))
+          ∙ ap (λ (ps : List ℕ). map writeFile (map (λ p. fileOf (getD files (from + p) records.past)) ps)) front ∙ ap (map writeFile) sorted-run
+
+      -- each is one of the run
+      pub place-below : (j : ℕ) → j < n → getD places j 0 < n
+      place-below j k =
+          let size : length (sort (byNumberAt ns) (upFrom 0 n)) ≡ n = sort-length (byNumberAt ns) (upFrom 0 n) ∙ upFrom-length 0 n in
+          let here : getD places j 0 ≡ getD (sort (byNumberAt ns) (upFrom 0 n)) j 0 = sym (getD-take n places j 0 k) ∙ ap (λ (l : List ℕ). getD l j 0) front in
+          rw here (in-run (getD (sort (byNumberAt ns) (upFrom 0 n)) j 0) (getD-in (sort (byNumberAt ns) (upFrom 0 n)) j 0 (omega arith)))
+
+-- the records of well-formed levels are well-formed
+pub levels-records : (files : List FileRecord) (counts : List ℕ) → length files ≡ 256 → wellLevels files counts ≡ true → all wellRecord (take (sum counts) files) ≡ true
+levels-records files counts q h =
+    let w = levels.well-says files counts .0 h in
+    let n = sum counts in
+    let room = w .sound .room in
+    let good = rw (levels.files-of-levels files counts (omega arith)) at (w .good .fits .good) in
+    records.well-list-is (take n files) ∙ both (all soundRecord (take n files)) (all (goodFile full) (map fileOf (take n files))) (w .sound .records) good
+
+pub level-record : (files : List FileRecord) (counts : List ℕ) (i : ℕ) → length files ≡ 256 → wellLevels files counts ≡ true → i < sum counts → wellRecord (getD files i records.past) ≡ true
+level-record files counts i q h k =
+    let n = sum counts in
+    let room = levels.well-says files counts .0 h .sound .room in
+    ap wellRecord (sym (getD-take n files i records.past k))
+    ∙ all-at wellRecord (take n files) i records.past (levels-records files counts q h) (omega (arith, length-take-le n files (omega arith)))
+
+-- ---- snapshots
+
+-- five counters
+pub counters-long : (a b c d e : ℕ) → length (section (bytes 8) (a ∷ b ∷ c ∷ d ∷ e ∷ [])) ≡ 42
+unfolding section join bytes
+counters-long a b c d e = refl
+
+-- a store's parts, one after another
+module _ (s : Store) (q : length (s .counts) ≡ 7) where
+  pub encode-is : encode (stateOf s)
+      ≡ section (bytes 8) (fiveOf (countersOf (s .counters))) ++ section writeEntry (entries 0 (map pointerOf (s .pointers))) ++ join (map writeLevel (levelsOf (s .files) (s .counts)))
+  unfolding encode stateOf level
+  encode-is =
+      let ls = levelsOf (s .files) (s .counts) in
+      let seven : length ls ≡ 7 = levels.levels-number (s .files) (s .counts) ∙ q in
+      ap (λ (r : List (List ℕ)). section (bytes 8) (fiveOf (countersOf (s .counters))) ++ section writeEntry (entries 0 (map pointerOf (s .pointers))) ++ join r)
+      (ap (λ (n : ℕ). map (λ l. writeLevel (getD ls l [])) (upFrom 0 n)) (sym seven) ∙ map-places writeLevel ls [])
+
+  -- their lengths
+  pub encode-parts : length (encode (stateOf s))
+      ≡ 42 + length (section writeEntry (entries 0 (map pointerOf (s .pointers)))) + length (join (map writeLevel (levelsOf (s .files) (s .counts))))
+  unfolding fiveOf
+  encode-parts =
+      let c = countersOf (s .counters) in
+      let five = section (bytes 8) (fiveOf c) in
+      let pointers = section writeEntry (entries 0 (map pointerOf (s .pointers))) in
+      omega (
+        arith,
+        ap length encode-is,
+        length-append (five ++ pointers) (join (map writeLevel (levelsOf (s .files) (s .counts)))),
+        length-append five pointers,
+        counters-long (c .next) (c .manifest) (c .last) (c .log) (c .previous),
+      )
+
+  -- laid down one after another from the start on
+  pub encode-laid : (out o₁ o₂ o₃ : List ℕ) (n₁ n₂ : ℕ) → length (encode (stateOf s)) ≤ length out → o₁ ≡ put out 0 (section (bytes 8) (fiveOf (countersOf (s .counters)))) → n₁ ≡ 0 + 42
+      → o₂ ≡ put o₁ n₁ (section writeEntry (entries 0 (map pointerOf (s .pointers)))) → n₂ ≡ n₁ + length (section writeEntry (entries 0 (map pointerOf (s .pointers))))
+      → o₃ ≡ put o₂ n₂ (join (map writeLevel (levelsOf (s .files) (s .counts)))) → o₃ ≡ encode (stateOf s) ++ drop (length (encode (stateOf s))) out
+  unfolding fiveOf
+  encode-laid out o₁ o₂ o₃ n₁ n₂ h e₁ f₁ e₂ f₂ e₃ =
+      let c = countersOf (s .counters) in
+      let five = section (bytes 8) (fiveOf c) in
+      let pointers = section writeEntry (entries 0 (map pointerOf (s .pointers))) in
+      let levels-bytes = join (map writeLevel (levelsOf (s .files) (s .counts))) in
+      let n = counters-long (c .next) (c .manifest) (c .last) (c .log) (c .previous) in
+      let size = encode-parts in
+      let two = put-next out o₁ o₂ 0 n₁ five pointers (omega arith) e₁ (omega arith) e₂ in
+      let three = put-next out o₂ o₃ 0 n₂ (five ++ pointers) levels-bytes (omega (arith, length-append five pointers)) two (omega (arith, length-append five pointers)) e₃ in
+      three ∙ ap (put out 0) (sym encode-is) ∙ put-front out (encode (stateOf s))
+
+  -- 58 bytes, the pointers that are set, the files
+  pub encode-long : sum (s .counts) ≤ length (s .files)
+      → length (encode (stateOf s)) ≡ 58 + length (join (map writeEntry (entries 0 (map pointerOf (s .pointers))))) + length (join (map writeFile (map fileOf (take (sum (s .counts)) (s .files)))))
+  encode-long h =
+      let es = entries 0 (map pointerOf (s .pointers)) in
+      let ls = levelsOf (s .files) (s .counts) in
+      let seven : length ls ≡ 7 = levels.levels-number (s .files) (s .counts) ∙ q in
+      omega (
+        arith,
+        encode-parts,
+        section-length writeEntry es,
+        levels-long ls,
+        ap (λ (fs : List File). length (join (map writeFile fs))) (levels.files-of-levels (s .files) (s .counts) h),
+      )
+
+-- what a state writes: it is not well-formed, the output is too short, neither
+module _ (t : State) (n : ℕ) where
+  write-ill : wellFormed full t ≡ false → calls.write full t n ≡ refused 14
+  unfolding calls.write firstOf _⇒_
+  write-ill h = rw h
+
+  write-short : wellFormed full t ≡ true → n < length (encode t) → calls.write full t n ≡ refused 13
+  unfolding calls.write firstOf _⇒_
+  write-short h k = rw (h, lt-ltb n (length (encode t)) k)
+
+  write-gives : wellFormed full t ≡ true → length (encode t) ≤ n → calls.write full t n ≡ gives (encode t)
+  unfolding calls.write firstOf _⇒_
+  write-gives h k = rw (h, le-ltb n (length (encode t)) k)
+
+-- the same of a store
+module _ (s : Store) (n : ℕ) where
+  pub written-ill : wellStore s ≡ false → snapshotOf s n ≡ refused 14
+  unfolding snapshotOf
+  written-ill h = store.onStore-ill s (λ t. calls.write full t n) (write-ill (stateOf s) n) h
+
+  pub written-short : wellStore s ≡ true → n < length (encode (stateOf s)) → snapshotOf s n ≡ refused 13
+  unfolding snapshotOf
+  written-short h k = store.onStore-well s (λ t. calls.write full t n) h ∙ write-short (stateOf s) n (store.well-says s .0 h .formed) k
+
+  pub written-well : wellStore s ≡ true → length (encode (stateOf s)) ≤ n → snapshotOf s n ≡ gives (encode (stateOf s))
+  unfolding snapshotOf
+  written-well h k = store.onStore-well s (λ t. calls.write full t n) h ∙ write-gives (stateOf s) n (store.well-says s .0 h .formed) k
+
+-- the answer and the lent output of a refusal
+pub said-refused : (a : Answer (List ℕ)) (n : ℕ) (out : List ℕ) → a ≡ refused n → (Refused n ≡ writtenOf a) × (out ≡ lent a out)
+unfolding writtenOf lent
+said-refused a n out e = rw e (refl, refl)
+
+-- and of a snapshot
+pub said-gives : (a : Answer (List ℕ)) (bs out o : List ℕ) (n : ℕ) → a ≡ gives bs → n ≡ length bs → o ≡ bs ++ drop (length bs) out → (Bytes n ≡ writtenOf a) × (o ≡ lent a out)
+unfolding writtenOf lent
+said-gives a bs out o n e f g = rw e (ap Bytes f, g)
+
+-- no snapshot is longer than 25440 bytes
+pub snapshot-most : (s : Store) → wellStore s ≡ true → length (encode (stateOf s)) ≤ 25440
+snapshot-most s h = encode-most (stateOf s) (formed-says full (stateOf s) .0 (store.well-says s .0 h .formed))
+
+-- the parts of a well-formed store are well-formed
+module _ (s : Store) (q : length (s .pointers) ≡ 7) (h : wellStore s ≡ true) where
+  pub store-pointers : all wellPointer (s .pointers) ≡ true
+  store-pointers =
+      let a = goodCounters (countersOf (s .counters)) in
+      let b = all wellPointer (s .pointers) in
+      let c = wellLevels (s .files) (s .counts) in
+      and-right a b (and-left (a && b) c (sym (store.well-is s q) ∙ h))
+
+  pub store-levels : wellLevels (s .files) (s .counts) ≡ true
+  store-levels =
+      let a = goodCounters (countersOf (s .counters)) in
+      let b = all wellPointer (s .pointers) in
+      let c = wellLevels (s .files) (s .counts) in
+      and-right (a && b) c (sym (store.well-is s q) ∙ h)
