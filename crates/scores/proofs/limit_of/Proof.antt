@@ -1,0 +1,22 @@
+-- `scores::limit_of` meets its contract. Assumes nothing.
+use Prim.Native.Nat.{_-_}
+use mathlib.Core.Path.{_∙_}
+use borrow.Author.Needs.{needs}
+use Rattle.scores.specs.ScoresLaws.{whole-first, whole-deeper}
+use Rattle.scores.proofs.limit_of.Statement.{statement}
+use Rattle.scores.proofs.limit_of.Tie as tie
+use Rattle.scores.proofs.limit_of.Reads as reads
+use Rattle.scores.proofs.limit_of.Lts as lts
+use Rattle.records.proofs.byte_limit.Reads as byte-limit-reads
+
+returns : tie.Need-returns
+returns c = whole-first (c .before .args .level) (c .if1 .taken)
+
+byte-limit-requires : tie.Need-byte-limit-requires
+byte-limit-requires c κs = search needs
+
+returns-2 : tie.Need-returns-2
+returns-2 c = c .byte-limit .ensures ∙ whole-deeper (c .before .before .args .level) (c .before .if1 .left) (c .before .before .pre)
+
+pub limit-of-spec : {M : Type 1} → statement M
+limit-of-spec = tie.close (tie.spec returns byte-limit-requires returns-2)

@@ -1,0 +1,56 @@
+-- The score of the level to compact, as code keeps it, and the answer that carries it. Assumes nothing.
+use Prim.Native.Nat.{ℕ, zero, suc, _*_, _^_, _≤_}
+use mathlib.Core.Bool.{false}
+use mathlib.Core.List.{List, [], _∷_}
+use lib.IntN.{pos}
+use lib.Ieee.{fin}
+use lib.ListN.{getD}
+use Rattle.model.specs.Answer.{Answer, gives, refused}
+use Rattle.model.specs.File.{State, full}
+use Rattle.model.specs.Score.{Score, byteLimit, score, levelToCompact, due, reported}
+use Rattle.model.specs.Calls as calls
+use Rattle.answers.specs.Outcome.{outcomeOf}
+use Rattle.scores.specs.declared.Scored.{Scored}
+use Rattle.scores.specs.declared.Work.{Work}
+
+-- the limit of a level that has a score: 4 files at level 0, bytes deeper
+unfoldable pub wholeOf : ℕ → ℕ
+wholeOf zero = 4
+wholeOf (suc l) = byteLimit l
+
+-- the score of a level with this count or these bytes
+unfoldable pub scoreAt : ℕ → ℕ → Score
+scoreAt l amount = record { part = amount; whole = wholeOf l }
+
+-- the scores of the levels with these amounts
+unfoldable pub scoresBy : List ℕ → ℕ → Score
+scoresBy amounts l = scoreAt l (getD amounts l 0)
+
+-- how often the limit of each level that has a score goes into 104857600000
+unfoldable pub times : List ℕ
+times = 26214400000 ∷ 10000 ∷ 1000 ∷ 100 ∷ 10 ∷ 1 ∷ []
+
+-- what the amounts of a well-formed version are: no more files at level 0 than there is room for, no more bytes than these files can have
+pub record Amounts (amounts : List ℕ) : Type 0 where
+  pub files : getD amounts 0 0 ≤ 256
+  pub bytes : (l : ℕ) → getD amounts l 0 ≤ 256 * 2 ^ 40
+
+-- a level and its score, with the score as reported and whether work is due
+unfoldable pub scoredAs : ℕ → Score → Scored
+scoredAs l c = record { level = l; amount = c .part; limit = c .whole; score = reported c; due = due c }
+
+-- the level to compact and its score
+unfoldable pub scoredOf : State → Scored
+scoredOf t = scoredAs (levelToCompact full t) (score t (levelToCompact full t))
+
+-- what stands beside a refusal: zeros, the score +0
+unfoldable pub unscored : Scored
+unscored = record { level = 0; amount = 0; limit = 0; score = fin false 0 (pos 0); due = false }
+
+-- the answer of `needs_compaction`
+unfoldable pub workOf : Answer calls.Work → Work
+workOf (gives w) = record {
+  outcome = outcomeOf (gives w);
+  scored = record { level = w .level; amount = w .score .part; limit = w .score .whole; score = w .reported; due = w .isDue };
+}
+workOf (refused n) = record { outcome = outcomeOf {A = calls.Work} (refused n); scored = unscored }
