@@ -1,0 +1,52 @@
+-- `bench::bench_form` ends and is safe. Assumes nothing.
+use Prim.Native.Nat.{_≤_, _<_, _+_, _-_}
+use borrow.Author.Needs.{needs}
+use mathlib.Core.Logic.{⊎-elim}
+use native.Mathlib.Omega.{arith}
+use Rattle.bench.proofs.bench_form.Statement.{statement}
+use Rattle.bench.proofs.bench_form.Tie as tie
+
+abbrev Inv-loop : tie.InvT-loop
+Inv-loop files repeats s done₀ k₀ done k = (k ≤ repeats) × (done < 1000000000)
+
+abbrev μ-loop : tie.MeasureT-loop
+μ-loop files repeats s done₀ k₀ done k = repeats - k
+
+filled-requires : tie.Need-filled-requires Inv-loop μ-loop
+filled-requires c κs = search needs
+
+loop-holds : tie.Need-loop-holds Inv-loop μ-loop
+loop-holds c = search needs
+
+is-well-formed-requires : tie.Need-is-well-formed-requires Inv-loop μ-loop
+is-well-formed-requires c κs = search needs
+
+add-done : tie.Need-add-done Inv-loop μ-loop
+add-done c = search needs
+
+add-k : tie.Need-add-k Inv-loop μ-loop
+add-k c = search needs
+
+loop-less : tie.Need-loop-less Inv-loop μ-loop
+loop-less c = search needs
+
+loop-again : tie.Need-loop-again Inv-loop μ-loop
+loop-again c = ⊎-elim (λ w. (omega arith, omega arith)) (λ w. (omega arith, omega arith)) (c .if1 .came)
+
+returns : tie.Need-returns Inv-loop μ-loop
+returns c = search needs
+
+pub bench-form-spec : {M : Type 1} → statement M
+bench-form-spec =
+    tie.close
+    (tie.spec
+    Inv-loop
+    μ-loop
+    filled-requires
+    loop-holds
+    is-well-formed-requires
+    add-done
+    add-k
+    loop-less
+    loop-again
+    returns)

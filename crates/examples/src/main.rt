@@ -1,0 +1,430 @@
+// Document 01's examples of keys, records and edits, each refusal of an edit, and snapshots written, damaged and read, run on the proved code.
+ghost use mathlib.Core.Path.{_≡_};
+use answers::Outcome;
+use edits::Addition;
+use edits::Deletion;
+use edits::Edit;
+use edits::NewLog;
+use edits::Pointing;
+use keys::Compared;
+use keys::FileNumber;
+use keys::Key;
+use store::Store;
+use store::Stored;
+use writing::Written;
+
+// The key of a user key of one byte, a small sequence, and a type.
+fn typed_key(user: u8, sequence: u8, kind: u8) -> Key {
+    let mut bytes = [0u8; 40];
+    bytes[0] = user;
+    bytes[1] = kind;
+    bytes[2] = sequence;
+    Key {
+        bytes: bytes,
+        len: 9,
+    }
+}
+
+// b@5 is key(b'b', 5): a value.
+fn key(user: u8, sequence: u8) -> Key {
+    typed_key(user, sequence, 1)
+}
+
+fn addition(level: usize, number: u64, size: u64, smallest: Key, largest: Key) -> Addition {
+    Addition {
+        level: level,
+        number: FileNumber(number),
+        size: size,
+        smallest: smallest,
+        largest: largest,
+    }
+}
+
+fn deletion(level: usize, number: u64) -> Deletion {
+    Deletion {
+        level: level,
+        number: FileNumber(number),
+    }
+}
+
+fn print(text: &[u8]) {
+    io::write_all(1, text);
+}
+
+fn print_compared(c: Compared) {
+    match c {
+        Compared::Before => print(b" before"),
+        Compared::Same => print(b" same"),
+        Compared::After => print(b" after"),
+        Compared::Refused(n) => {
+            print(b" refused ");
+            io::print_decimal(1, wide(n));
+        }
+    }
+}
+
+fn wide(n: u8) -> u64 {
+    n as u64
+}
+
+fn many(n: usize) -> u64
+    ensures { λ r. ⌜ r ≡ n ⌝ }
+{
+    n as u64
+}
+
+// The outcome of an edit, and how many files the store then has at each of the levels 0 to 2.
+fn print_stored(r: Stored) {
+    let o = r.outcome;
+    match o {
+        Outcome::Done => print(b" done"),
+        Outcome::Refused(n) => {
+            print(b" refused ");
+            io::print_decimal(1, wide(n));
+        }
+    }
+    let s = r.store;
+    let counts = s.counts;
+    print(b", files ");
+    io::print_decimal(1, many(counts[0]));
+    print(b" ");
+    io::print_decimal(1, many(counts[1]));
+    print(b" ");
+    io::print_decimal(1, many(counts[2]));
+    print(b"\n");
+}
+
+fn example_keys() {
+    print(b"E1 b@5, b@4:");
+    print_compared(keys::compare(key(b'b', 5), key(b'b', 4)));
+    print(b"; b@4, c@9:");
+    print_compared(keys::compare(key(b'b', 4), key(b'c', 9)));
+    print(b"\nvalue and deletion of one sequence:");
+    print_compared(keys::compare(key(b'b', 5), typed_key(b'b', 5, 0)));
+    print(b"\ntype 2:");
+    print_compared(keys::compare(key(b'b', 5), typed_key(b'b', 5, 2)));
+    print(b"\n");
+}
+
+fn example_seeks() {
+    print(b"E12 seeks of 1654783: ");
+    io::print_decimal(1, records::allowed_seeks(1654783));
+    print(b", of 1654784: ");
+    io::print_decimal(1, records::allowed_seeks(1654784));
+    print(b"\n");
+}
+
+fn example_edits() {
+    let s = store::fresh_store();
+    let first = addition(1, 1, 1, key(b'a', 9), key(b'b', 5));
+    print(b"E4 a@9..b@5 and b@3..c@1 at level 1:");
+    let apart = Edit::empty()
+        .add(first)
+        .add(addition(1, 2, 1, key(b'b', 3), key(b'c', 1)));
+    print_stored(apply::apply(s, apart));
+    print(b"E5 a@9..b@5 and b@5..c@1 at level 1:");
+    let touching = Edit::empty()
+        .add(first)
+        .add(addition(1, 2, 1, key(b'b', 5), key(b'c', 1)));
+    print_stored(apply::apply(s, touching));
+    print(b"E6 base holds 7 at level 2, the edit deletes and adds 7 there:");
+    let seven = addition(2, 7, 1, key(b'a', 9), key(b'b', 5));
+    let base = apply::apply(s, Edit::empty().add(seven));
+    let again = Edit::empty()
+        .delete(deletion(2, 7))
+        .add(addition(2, 7, 1, key(b'c', 9), key(b'd', 5)));
+    print_stored(apply::apply(base.store, again));
+}
+
+fn example_refusals() {
+    let s = store::fresh_store();
+    let a = key(b'a', 9);
+    let b = key(b'b', 5);
+    print(b"level 7:");
+    print_stored(apply::apply(s, Edit::empty().delete(deletion(7, 1))));
+    print(b"a key of type 2:");
+    print_stored(apply::apply(
+        s,
+        Edit::empty().point(Pointing {
+            level: 1,
+            key: typed_key(b'a', 9, 2),
+        }),
+    ));
+    print(b"too many entries:");
+    let mut full = Edit::empty();
+    full.addition_count = 65;
+    print_stored(apply::apply(s, full));
+    print(b"smallest after largest:");
+    print_stored(apply::apply(s, Edit::empty().add(addition(1, 1, 1, b, a))));
+    print(b"a size of 2^40 + 1:");
+    print_stored(apply::apply(s, Edit::empty().add(addition(1, 1, 1099511627777, a, b))));
+    print(b"a log number that is next:");
+    print_stored(apply::apply(s, Edit::empty().with_log(NewLog::Becomes(FileNumber(2)))));
+    print(b"one number at two levels:");
+    print_stored(apply::apply(
+        s,
+        Edit::empty()
+            .add(addition(1, 1, 1, a, b))
+            .add(addition(2, 1, 1, a, b)),
+    ));
+    print(b"a store whose count is wrong:");
+    let mut damaged = s;
+    damaged.counts[1] = 1;
+    print_stored(apply::apply(damaged, Edit::empty()));
+}
+
+// The key of the n-th of up to 65,536 places.
+fn place(n: usize) -> Key {
+    let mut bytes = [0u8; 40];
+    bytes[0] = (n / 256 % 256) as u8;
+    bytes[1] = (n % 256) as u8;
+    bytes[2] = 1;
+    bytes[3] = 9;
+    Key {
+        bytes: bytes,
+        len: 10,
+    }
+}
+
+// The longest key of the n-th place.
+fn long_place(n: usize) -> Key {
+    let mut bytes = [0u8; 40];
+    bytes[0] = (n / 256 % 256) as u8;
+    bytes[1] = (n % 256) as u8;
+    bytes[32] = 1;
+    bytes[33] = 9;
+    Key {
+        bytes: bytes,
+        len: 40,
+    }
+}
+
+fn key_at(n: usize, is_long: bool) -> Key {
+    if is_long { long_place(n) } else { place(n) }
+}
+
+// The same edit with 64 additions more, at places from a number on.
+fn sixty_four(e: Edit, level: usize, from: usize, is_long: bool) -> Edit {
+    let mut out = e;
+    let mut i: usize = 0;
+    while i < 64 {
+        let n = from % 65536 + i;
+        out = out.add(addition(
+            level,
+            many(n) + 10,
+            1000,
+            key_at(n, is_long),
+            key_at(n, is_long),
+        ));
+        i += 1;
+    }
+    out
+}
+
+// An edit with 256 deletions, of the files that `sixty_four` added from 0 on, and 16 pointers.
+fn all_gone() -> Edit {
+    let mut out = Edit::empty();
+    let mut i: usize = 0;
+    while i < 256 {
+        out = out.delete(deletion(1, many(i) + 10));
+        i += 1;
+    }
+    let mut j: usize = 0;
+    while j < 16 {
+        out = out.point(Pointing {
+            level: j % 7,
+            key: place(j),
+        });
+        j += 1;
+    }
+    out
+}
+
+fn example_full() {
+    let s0 = store::fresh_store();
+    let s1 = apply::apply(s0, sixty_four(Edit::empty(), 1, 0, false));
+    let s2 = apply::apply(s1.store, sixty_four(Edit::empty(), 1, 64, false));
+    let s3 = apply::apply(s2.store, sixty_four(Edit::empty(), 1, 128, false));
+    let s4 = apply::apply(s3.store, sixty_four(Edit::empty(), 1, 192, false));
+    print(b"256 files:");
+    print_stored(s4);
+    print(b"one file more:");
+    print_stored(apply::apply(
+        s4.store,
+        Edit::empty().add(addition(0, 1, 1, place(0), place(0))),
+    ));
+    print(b"256 deletions, 64 additions, 16 pointers:");
+    print_stored(apply::apply(s4.store, sixty_four(all_gone(), 2, 0, false)));
+    example_longest(s4.store);
+}
+
+// How many bytes were written, or the refusal.
+fn print_written(w: Written) {
+    match w {
+        Written::Bytes(n) => {
+            print(b" ");
+            io::print_decimal(1, many(n));
+            print(b" bytes\n");
+        }
+        Written::Refused(n) => {
+            print(b" refused ");
+            io::print_decimal(1, wide(n));
+            print(b"\n");
+        }
+    }
+}
+
+fn changed(snapshot: [u8; 256], at: usize, value: u8) -> [u8; 256] {
+    let mut bytes = snapshot;
+    let place = at % 256;
+    bytes[place] = value;
+    bytes
+}
+
+// What reading the first bytes answers.
+fn read_few(text: &[u8], bytes: [u8; 256], length: usize) {
+    let end = length % 256;
+    print(text);
+    print_stored(reading::read(&bytes[0..end]));
+}
+
+// What reading the first bytes with one of them changed answers.
+fn damage(text: &[u8], snapshot: [u8; 256], length: usize, at: usize, value: u8) {
+    read_few(text, changed(snapshot, at, value), length);
+}
+
+// A store with pointers at levels 1 and 2, two files at level 1 and one at level 2: its snapshot has 188 bytes.
+fn small_store() -> Store {
+    let first = Pointing {
+        level: 1,
+        key: key(b'a', 9),
+    };
+    let second = Pointing {
+        level: 2,
+        key: key(b'b', 9),
+    };
+    let e = Edit::empty().point(first).point(second);
+    let f = e.add(addition(1, 5, 1, key(b'a', 9), key(b'b', 5)))
+        .add(addition(1, 6, 1, key(b'c', 9), key(b'd', 5)));
+    let r = apply::apply(
+        store::fresh_store(),
+        f.add(addition(2, 7, 1, key(b'a', 9), key(b'b', 5))),
+    );
+    r.store
+}
+
+fn example_fresh() {
+    let mut out = [0u8; 58];
+    print(b"a fresh store writes");
+    print_written(writing::write(store::fresh_store(), &mut out));
+    let mut short = [0u8; 57];
+    print(b"into 57 bytes:");
+    print_written(writing::write(store::fresh_store(), &mut short));
+}
+
+fn example_snapshots() {
+    let mut out = [7u8; 256];
+    print(b"a small store writes");
+    print_written(writing::write(small_store(), &mut out));
+    print(b"the byte past it: ");
+    io::print_decimal(1, wide(out[188]));
+    print(b"\n");
+    example_damages(out);
+}
+
+fn example_damages(out: [u8; 256]) {
+    damage(b"read back:", out, 188, 255, 0);
+    damage(b"one byte less:", out, 187, 255, 0);
+    damage(b"one byte more:", out, 189, 188, 0);
+    damage(b"counters' count 4:", out, 188, 0, 4);
+    damage(b"next beyond 2^56 - 1:", out, 188, 9, 1);
+    damage(b"pointers' count 3:", out, 188, 42, 3);
+    damage(b"a pointer twice:", out, 188, 55, 1);
+    damage(b"pointer of level 7:", out, 188, 55, 7);
+    damage(b"a key of 8 bytes:", out, 188, 45, 8);
+    damage(b"a key of type 2:", out, 188, 47, 2);
+    damage(b"a level's count off:", out, 188, 68, 3);
+    damage(b"numbers not rising:", out, 188, 70, 6);
+    damage(b"numbers falling:", out, 188, 70, 9);
+    damage(b"a number at two levels:", out, 188, 144, 6);
+    damage(b"a size beyond 2^40:", out, 188, 83, 2);
+    damage(b"smallest after largest:", out, 188, 87, b'z');
+    damage(b"colliding files:", out, 188, 97, b'c');
+    damage(b"another size:", out, 188, 78, 2);
+}
+
+// What reading the first of many bytes answers.
+fn read_first(text: &[u8], bytes: [u8; 25440], length: usize) {
+    let end = length % 25440;
+    print(text);
+    print_stored(reading::read(&bytes[0..end]));
+}
+
+// The snapshot of 256 files of level 1 with one file more.
+fn one_file_more(snapshot: [u8; 25440]) -> [u8; 25440] {
+    let mut out = snapshot;
+    let mut i: usize = 0;
+    while i < 38 {
+        out[9776 + i] = snapshot[9738 + i];
+        i += 1;
+    }
+    out[46] = 1;
+    out[47] = 1;
+    out[9776] = 10;
+    out[9793] = 1;
+    out[9794] = 0;
+    out[9804] = 1;
+    out[9805] = 0;
+    out
+}
+
+fn example_longest(s: Store) {
+    let mut out = [0u8; 25440];
+    print(b"256 files write");
+    print_written(writing::write(s, &mut out));
+    read_first(b"read back:", out, 9786);
+    read_first(b"257 files:", one_file_more(out), 9824);
+}
+
+// Seven pointers of the longest key.
+fn seven_pointers() -> Edit {
+    let mut out = Edit::empty();
+    let mut j: usize = 0;
+    while j < 7 {
+        out = out.point(Pointing {
+            level: j,
+            key: long_place(j),
+        });
+        j += 1;
+    }
+    out
+}
+
+// A full store of the longest keys: no snapshot is longer.
+fn example_most() {
+    let s0 = apply::apply(store::fresh_store(), seven_pointers());
+    let s1 = apply::apply(s0.store, sixty_four(Edit::empty(), 1, 0, true));
+    let s2 = apply::apply(s1.store, sixty_four(Edit::empty(), 1, 64, true));
+    let s3 = apply::apply(s2.store, sixty_four(Edit::empty(), 1, 128, true));
+    let s4 = apply::apply(s3.store, sixty_four(Edit::empty(), 1, 192, true));
+    let mut out = [0u8; 25440];
+    print(b"256 files and 7 pointers of the longest keys write");
+    print_written(writing::write(s4.store, &mut out));
+    read_all(out);
+}
+
+fn read_all(bytes: [u8; 25440]) {
+    print(b"read back:");
+    print_stored(reading::read(&bytes));
+}
+
+fn main() {
+    example_keys();
+    example_seeks();
+    example_edits();
+    example_refusals();
+    example_full();
+    example_fresh();
+    example_snapshots();
+    example_most();
+}
