@@ -39,3 +39,16 @@ pub enum Outcome {
     Done,
     Refused(u8),
 }
+
+// The answer of a question: yes, no, or refused by a number.
+pub enum Told {
+    Yes,
+    No,
+    Refused(u8),
+}
+
+// The answer of a call that writes into lent output: how many places it filled, or refused by a number.
+pub enum Counted {
+    Filled(usize),
+    Refused(u8),
+}

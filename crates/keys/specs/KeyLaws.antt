@@ -160,6 +160,11 @@ pub keyOf-record : (x : List ℕ) → length x ≤ 40 → keyOf (keyRecord x) �
 unfolding keyOf keyRecord
 keyOf-record x h = held-padded 40 x h
 
+-- a record of no bytes is sound if zeros stand in all its room
+pub sound-empty : (k : Key) → k .len ≡ 0 → soundKey k ≡ all isZero (k .bytes)
+unfolding soundKey sound
+sound-empty k e = rw e
+
 -- what is kept of a key is sound
 pub record-sound : (x : List ℕ) → length x ≤ 40 → soundKey (keyRecord x) ≡ true
 unfolding soundKey keyRecord

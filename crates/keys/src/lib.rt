@@ -1,12 +1,13 @@
 // Internal keys, user keys and the two kinds of numbers, by value. Every function answers for every record, whatever its length says.
 ghost use mathlib.Core.Path.{_≡_};
-ghost use Prim.Native.Nat.{_+_, _-_, _≤_, _<_};
+ghost use Prim.Native.Nat.{_+_, _-_, _≤_, _<_, min};
 ghost use mathlib.Core.Bool.{cond};
 ghost use mathlib.Core.List.{[]};
 ghost use lib.Dec.{leb};
-ghost use lib.ListN.{length};
+ghost use lib.ListN.{length, take, drop};
 ghost use Rattle.lemmas.specs.Order.{lexb};
 ghost use Rattle.lemmas.specs.Lists.{all};
+ghost use Rattle.lemmas.specs.Big.{big};
 ghost use Rattle.model.specs.Key as model;
 ghost use Rattle.model.specs.Calls.{compareKeys, parseKey};
 ghost use Rattle.model.specs.File.{full};
@@ -58,13 +59,54 @@ pub const BLANK_KEY: Key = Key {
     len: 0,
 };
 
-// The order of two lists of bytes: by the first that differs, a proper prefix first.
+// A byte as a number of 64 bits.
+fn wide(x: u8) -> u64
+    ensures { λ r. ⌜ r ≡ x ⌝ }
+{
+    x as u64
+}
+
+// The lesser of two places.
+fn lesser(m: usize, n: usize) -> usize
+    ensures { λ r. ⌜ r ≡ min m n ⌝ }
+{
+    if n < m { n } else { m }
+}
+
+// The eight bytes from a place on as one number, the first byte the greatest.
+fn word(a: &[u8], at: usize) -> u64
+    requires { ⌜ at + 8 ≤ length (now a) ⌝ }
+    ensures { λ r. ⌜ r ≡ big 0 (take 8 (drop at (now (a .entry)))) ⌝ }
+{
+    let mut x: u64 = 0;
+    let mut i: usize = 0;
+    while i < 8 {
+        x = x * 256 + wide(a[at + i]);
+        i += 1;
+    }
+    x
+}
+
+// The order of two lists of bytes: by the first that differs, a proper prefix first. Eight bytes are compared at once, the last eight of both again where fewer are left.
 pub fn lex_order(a: &[u8], b: &[u8]) -> Order
     ensures { λ r. ⌜ r ≡ standing lexb (now (a .entry)) (now (b .entry)) ⌝ }
 {
     let m = a.len();
     let n = b.len();
+    let both = lesser(m, n);
     let mut i: usize = 0;
+    while 8 <= both && i < both {
+        let at = lesser(i, both - 8);
+        let x = word(a, at);
+        let y = word(b, at);
+        if x < y {
+            return Order::Less;
+        }
+        if y < x {
+            return Order::Greater;
+        }
+        i = at + 8;
+    }
     while i < m {
         if n <= i {
             return Order::Greater;
@@ -115,13 +157,6 @@ fn user_key_len(u: UserKey) -> usize
     ensures { λ r. ⌜ r ≡ length (userOf u) ⌝ }
 {
     held_len(u.len, UserKey::ROOM)
-}
-
-// A byte as a number of 64 bits.
-fn wide(x: u8) -> u64
-    ensures { λ r. ⌜ r ≡ x ⌝ }
-{
-    x as u64
 }
 
 // The type of a key: the trailer's lowest byte.
@@ -334,12 +369,18 @@ pub fn is_sound_user(u: UserKey) -> bool
     all_zero(&x[n..32])
 }
 
-// Whether every byte is zero.
+// Whether every byte is zero, eight at once.
 fn all_zero(a: &[u8]) -> bool
     ensures { λ r. ⌜ r ≡ all isZero (now (a .entry)) ⌝ }
 {
     let n = a.len();
     let mut i: usize = 0;
+    while 8 <= n - i {
+        if word(a, i) != 0 {
+            return false;
+        }
+        i += 8;
+    }
     while i < n {
         if a[i] != 0 {
             return false;
@@ -347,6 +388,21 @@ fn all_zero(a: &[u8]) -> bool
         i += 1;
     }
     true
+}
+
+// Whether zeros stand in all the room of a key's record. No early end, so that many bytes are tested at once.
+pub fn holds_zeros(k: Key) -> bool
+    ensures { λ r. ⌜ r ≡ all isZero (k .bytes) ⌝ }
+{
+    let mut others: u8 = 0;
+    let mut i: usize = 0;
+    while i < Key::ROOM {
+        if k.bytes[i] != 0 {
+            others += 1;
+        }
+        i += 1;
+    }
+    others == 0
 }
 
 // What is kept of a key: the same bytes, zeros past its end.

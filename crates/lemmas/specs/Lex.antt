@@ -1,12 +1,13 @@
 -- How the dictionary order of two lists goes on from a place up to which they agree: for a loop that compares. Assumes nothing.
-use Prim.Native.Nat.{ℕ, _+_, _≤_, _<_}
+use Prim.Native.Nat.{ℕ, zero, suc, _+_, _≤_, _<_}
 use mathlib.Core.Path.{_≡_, refl}
-use mathlib.Core.Bool.{true, false}
+use mathlib.Core.Bool.{Bool, true, false}
 use mathlib.Core.List.{List, [], _∷_}
 use native.Mathlib.Omega.{arith}
-use lib.ListN.{length, getD, drop, drop-of-length-le}
+use lib.Dec.{ltb}
+use lib.ListN.{length, getD, take, drop, drop-of-length-le}
 use borrow.Author.Tests.{lt-ltb, le-ltb}
-use Rattle.lemmas.specs.Order.{lexb, byFirst}
+use Rattle.lemmas.specs.Order.{lexb, byFirst, clash, nat-order, lex-order}
 use Rattle.lemmas.specs.Slices.{rest-cons}
 
 -- "a is before b", from place i on. What they say of "b is before a" is the same with a and b exchanged: `greater b a i k h l` beside `less a b i h k l`
@@ -45,3 +46,37 @@ module _ (a b : List ℕ) (i : ℕ) where
     pub onward : getD b i 0 ≤ getD a i 0 → getD a i 0 ≤ getD b i 0 → lexb (drop i a) (drop i b) ≡ lexb (drop (i + 1) a) (drop (i + 1) b)
     unfolding lexb byFirst
     onward l m = rw (rest-cons a i 0 h, rest-cons b i 0 k, le-ltb (getD a i 0) (getD b i 0) l, le-ltb (getD b i 0) (getD a i 0) m)
+
+-- ---- several numbers at once
+
+-- lists that agree up to a place stand as what is left of them
+pub agreed : (i : ℕ) (a b : List ℕ) → i ≤ length a → i ≤ length b → take i a ≡ take i b → lexb a b ≡ lexb (drop i a) (drop i b)
+unfolding lexb byFirst
+agreed zero a b h k e = refl
+agreed (suc i) [] b h k e = absurd (omega arith)
+agreed (suc i) (x ∷ a) [] h k e = absurd (omega arith)
+agreed (suc i) (x ∷ a) (y ∷ b) h k e =
+    let here : x ≡ y = cc in
+    let rest : take i a ≡ take i b = cc in
+    rw (here, nat-order .irrefl y) (agreed i a b (omega arith) (omega arith) rest)
+
+-- the front of two lists decides where it differs
+pub front-less : (n : ℕ) (a b : List ℕ) → n ≤ length a → n ≤ length b → lexb (take n a) (take n b) ≡ true → lexb a b ≡ true
+unfolding lexb byFirst
+front-less zero a b h k e = clash e refl
+front-less (suc n) [] b h k e = absurd (omega arith)
+front-less (suc n) (x ∷ a) [] h k e = absurd (omega arith)
+front-less (suc n) (x ∷ a) (y ∷ b) h k e = go (ltb x y) (ltb y x) e (front-less n a b (omega arith) (omega arith))
+  where
+    go : (s t : Bool) → byFirst s t (lexb (take n a) (take n b)) ≡ true → (lexb (take n a) (take n b) ≡ true → lexb a b ≡ true) → byFirst s t (lexb a b) ≡ true
+    go true t e ih = refl
+    go false true e ih = clash e refl
+    go false false e ih = ih e
+
+-- not both before each other
+pub not-both : (a b : List ℕ) → lexb a b ≡ true → lexb b a ≡ false
+not-both a b h = go (lexb b a) refl
+  where
+    go : (t : Bool) → lexb b a ≡ t → lexb b a ≡ false
+    go false e = e
+    go true e = clash (lex-order .trans a b a h e) (lex-order .irrefl a)

@@ -3,6 +3,7 @@ pub mod Lists
 pub mod ListLaws
 pub mod AreBytes
 pub mod Little
+pub mod Big
 pub mod Slices
 pub mod Fronts
 pub mod Loops

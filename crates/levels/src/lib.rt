@@ -75,7 +75,7 @@ pub fn are_in_order(files: [FileRecord; 256], counts: [usize; 7]) -> bool
     true
 }
 
-// Whether levels are well-formed: room, records, blank places, numbers, order.
+// Whether levels are well-formed: room, records, blank places, numbers, order. The array goes to no other function: each would copy it.
 pub fn are_well_formed(files: [FileRecord; 256], counts: [usize; 7]) -> bool
     ensures { λ r. ⌜ r ≡ wellLevels files counts ⌝ }
 {
@@ -83,15 +83,39 @@ pub fn are_well_formed(files: [FileRecord; 256], counts: [usize; 7]) -> bool
     if 256 < n {
         return false;
     }
-    if !records::are_well_formed(files, 0, n) {
-        return false;
+    let mut column = [0u64; 256];
+    let mut i: usize = 0;
+    while i < n {
+        let f = files[i];
+        if !records::is_well_formed(f) {
+            return false;
+        }
+        let x = f.number;
+        column[i] = x.0;
+        i += 1;
     }
-    if !records::are_blank(files, n) {
-        return false;
+    while i < 256 {
+        if !records::is_blank(files[i]) {
+            return false;
+        }
+        i += 1;
     }
-    let column = records::numbers_of(files, 0, n);
     if !sorting::no_twice(&column[0..n]) {
         return false;
     }
-    are_in_order(files, counts)
+    let mut from: usize = 0;
+    let mut level: usize = 0;
+    while level < Level::COUNT {
+        let to = from + counts[level];
+        let mut next = from + 1;
+        while next < to {
+            if !may_follow(level, files[next - 1], files[next]) {
+                return false;
+            }
+            next += 1;
+        }
+        from = to;
+        level += 1;
+    }
+    true
 }

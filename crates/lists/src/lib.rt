@@ -84,8 +84,8 @@ pub fn level_files(s: Store, level: usize) -> Listed
     }
 }
 
-// No files, beside a refusal.
-fn nothing(n: u8) -> Listed
+// No files, beside a refusal. For callers of this repository that answer a list.
+pub fn nothing(n: u8) -> Listed
     ensures { λ r. ⌜ r ≡ listed (refused n) ⌝ }
 {
     let outcome = Outcome::Refused(n);

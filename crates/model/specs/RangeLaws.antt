@@ -127,17 +127,17 @@ inside-mono r v f w h =
     }
 
 -- stretching widens
-stretch-within : (r : Range) (f : File) → Within r (stretch r f)
+pub stretch-within : (r : Range) (f : File) → Within r (stretch r f)
 unfolding stretch
 stretch-within r f = record { start = earlier-l (r .start) (user (f .smallest)); stop = later-l (r .stop) (user (f .largest)) }
 
 -- over the file
-stretch-inside : (r : Range) (f : File) → inside (stretch r f) f ≡ true
+pub stretch-inside : (r : Range) (f : File) → inside (stretch r f) f ≡ true
 unfolding stretch
 stretch-inside r f = inside-says (stretch r f) f .1 record { left = earlier-r (r .start) (user (f .smallest)); right = later-r (r .stop) (user (f .largest)) }
 
 -- and no more than needed
-stretch-least : (r v : Range) (f : File) → Within r v → inside v f ≡ true → Within (stretch r f) v
+pub stretch-least : (r v : Range) (f : File) → Within r v → inside v f ≡ true → Within (stretch r f) v
 unfolding stretch
 stretch-least r v f w h = let o = inside-says v f .0 h in record {
   start = earlier-least (r .start) (user (f .smallest)) (v .start) (w .start) (o .left);
@@ -145,17 +145,17 @@ stretch-least r v f w h = let o = inside-says v f .0 h in record {
 }
 
 -- what sticks out overlaps
-sticks-overlaps : (r : Range) (f : File) → sticksOut r f ≡ true → overlaps r f ≡ true
+pub sticks-overlaps : (r : Range) (f : File) → sticksOut r f ≡ true → overlaps r f ≡ true
 unfolding sticksOut
 sticks-overlaps r f h = and-left (overlaps r f) (not (inside r f)) h
 
 -- and does not lie inside
-sticks-outside : (r : Range) (f : File) → sticksOut r f ≡ true → inside r f ≡ false
+pub sticks-outside : (r : Range) (f : File) → sticksOut r f ≡ true → inside r f ≡ false
 unfolding sticksOut
 sticks-outside r f h = not-true (inside r f) (and-right (overlaps r f) (not (inside r f)) h)
 
 -- what overlaps and does not stick out lies inside
-no-stick : (r : Range) (f : File) → sticksOut r f ≡ false → overlaps r f ≡ true → inside r f ≡ true
+pub no-stick : (r : Range) (f : File) → sticksOut r f ≡ false → overlaps r f ≡ true → inside r f ≡ true
 unfolding sticksOut
 no-stick r f h o = go (inside r f) refl
   where

@@ -156,7 +156,11 @@ pub fn is_well_formed(r: FileRecord) -> bool
 fn is_blank_key(k: Key) -> bool
     ensures { λ b. ⌜ b ≡ blankKey k ⌝ }
 {
-    if k.len == 0 { keys::is_sound(k) } else { false }
+    if k.len == 0 {
+        keys::holds_zeros(k)
+    } else {
+        false
+    }
 }
 
 // Whether a record is the blank one.
@@ -181,8 +185,8 @@ pub fn is_blank(r: FileRecord) -> bool
     is_blank_key(high)
 }
 
-// A place, or the end of the room.
-fn within(to: usize) -> usize
+// A place, or the end of the room. For callers of this repository that go through a run.
+pub fn within(to: usize) -> usize
     ensures { λ r. ⌜ r ≡ min to 256 ⌝ }
 {
     if 256 < to {

@@ -1,124 +1,510 @@
--- `levels::are_well_formed` meets its contract. Assumes nothing.
-use Prim.Native.Nat.{_-_}
-use mathlib.Core.Path.{_≡_, sym, ap, _∙_}
-use mathlib.Core.Bool.{_&&_}
+-- `levels::are_well_formed` meets its contract. Loop by loop: the records from i on decide for all, and their numbers stand in the column; the places from i on
+-- are blank; the levels from this one on are in order, and in a level the files from the one before `next` on. Assumes nothing.
+use Prim.Native.Nat.{ℕ, _+_, _-_, _≤_}
+use mathlib.Core.Path.{_≡_, refl, sym, ap, _∙_}
+use mathlib.Core.Bool.{true, _&&_}
 use mathlib.Core.List.{map}
 use native.Mathlib.Omega.{arith}
 use borrow.Author.Needs.{needs}
 use borrow.Author.Tests.{not-true, not-false}
-use lib.ListN.{length, take, drop, replicate}
+use lib.ListN.{length, getD, set, take, drop, replicate, length-set, drop-of-length-le}
+use lib.Seq.{slice}
 use Rattle.lemmas.specs.Lists.{all, sum, distinct}
+use Rattle.lemmas.specs.Slices.{put, put-cons, put-nil, rest-cons, run-past, sum-turn}
+use Rattle.lemmas.specs.Loops.{all-found, all-passed, all-here, all-later}
 use Rattle.model.specs.File.{inOrder, levelwise, numbers}
 use Rattle.records.specs.Record.{fileOf, wellRecord, isBlank}
+use Rattle.records.specs.RecordLaws.{past, numbers-turn, numbers-ended}
+use Rattle.records.specs.Run.{run}
 use Rattle.records.proofs.Shape.{all-words}
 use Rattle.levels.specs.Levels.{levelsOf, wellLevels}
-use Rattle.levels.specs.LevelsLaws.{too-many, well-is, column-is}
+use Rattle.levels.specs.LevelsLaws.{too-many, well-is, column-is, order-passed, order-failed, order-ended, next-follows, next-fails, none-next}
 use Rattle.levels.proofs.are_well_formed.Statement.{statement}
 use Rattle.levels.proofs.are_well_formed.Tie as tie
 
-counted-requires : tie.Need-counted-requires
+abbrev Inv-loop : tie.InvT-loop
+Inv-loop files counts n column₀ i₀ column i = (i ≤ n) × (length column ≡ 256)
+    × (put column i (numbers (run i n files)) ≡ put (replicate 256 0) 0 (numbers (run 0 n files))) × (all wellRecord (slice i n files) ≡ all wellRecord (slice 0 n files))
+
+abbrev μ-loop : tie.MeasureT-loop
+μ-loop files counts n column₀ i₀ column i = n - i
+
+abbrev Inv-loop2 : tie.InvT-loop2
+Inv-loop2 files counts n column i₀ i = (i ≤ 256) × (all isBlank (drop i files) ≡ all isBlank (drop n files))
+
+abbrev μ-loop2 : tie.MeasureT-loop2
+μ-loop2 files counts n column i₀ i = 256 - i
+
+abbrev Inv-loop4 : tie.InvT-loop4
+Inv-loop4 files counts n i from level to next₀ next = (from + 1 ≤ next) × (to ≤ 256)
+    × (inOrder level (run (next - 1) to files) ≡ inOrder level (run from to files))
+
+abbrev μ-loop4 : tie.MeasureT-loop4
+μ-loop4 files counts n i from level to next₀ next = to - next
+
+abbrev Inv-loop3 : tie.InvT-loop3
+Inv-loop3 files counts n i from₀ level₀ from level = (level ≤ 7) × (from + sum (drop level counts) ≤ 256)
+    × (levelwise inOrder level (levelsOf (drop from files) (drop level counts)) ≡ levelwise inOrder 0 (levelsOf files counts))
+
+abbrev μ-loop3 : tie.MeasureT-loop3
+μ-loop3 files counts n i from₀ level₀ from level = 7 - level
+
+counted-requires :
+    tie.Need-counted-requires Inv-loop μ-loop Inv-loop2 μ-loop2 Inv-loop4 μ-loop4 Inv-loop3 μ-loop3
 counted-requires c κs = search needs
 
-returns : tie.Need-returns
+returns : tie.Need-returns Inv-loop μ-loop Inv-loop2 μ-loop2 Inv-loop4 μ-loop4 Inv-loop3 μ-loop3
 returns c =
     let a = c .before .before .args in
-    sym (too-many (a .files) (a .counts) (omega arith))
+    sym (too-many (a .t1) (a .t2) (omega arith))
 
--- the levels have room: the count is their sum
-count : (c : tie.Else1) → c .before .counted .result ≡ sum (c .before .before .args .counts)
-count c = omega arith
-
--- and the test is that of the records, of the blank places, of the numbers and of the order
-parts : (c : tie.Else1) → let files = c .before .before .args .files in let counts = c .before .before .args .counts in
+-- the levels have room: the test is that of the records, of the blank places, of the numbers and of the order
+parts : (c : tie.Else1 Inv-loop μ-loop Inv-loop2 μ-loop2 Inv-loop4 μ-loop4 Inv-loop3 μ-loop3) → let files = c .before .before .args .t1 in let counts = c .before .before .args .t2 in
     let n = c .before .counted .result in
     wellLevels files counts ≡ all wellRecord (take n files) && all isBlank (drop n files) && distinct (numbers (map fileOf (take n files))) && levelwise inOrder 0 (levelsOf files counts)
 parts c =
     let s = c .before .before in
-    let files = s .args .files in
-    let counts = s .args .counts in
+    let files = s .args .t1 in
+    let counts = s .args .t2 in
     let q : length files ≡ 256 = search needs in
     let k : length counts ≡ 7 = search needs in
-    rw (count c) (well-is files counts q k (all-words 256 files _ (s .good .0)) (omega arith))
+    let count : c .before .counted .result ≡ sum counts = omega arith in
+    rw count (well-is files counts q k (all-words 256 files _ (s .good .0)) (omega arith))
 
-are-well-formed-requires : tie.Need-are-well-formed-requires
-are-well-formed-requires c κs = search needs
+loop-holds :
+    tie.Need-loop-holds Inv-loop μ-loop Inv-loop2 μ-loop2 Inv-loop4 μ-loop4 Inv-loop3 μ-loop3
+loop-holds c = (omega arith, refl, refl, refl)
 
-returns-2 : tie.Need-returns-2
+mul-f : tie.Need-mul-f Inv-loop μ-loop Inv-loop2 μ-loop2 Inv-loop4 μ-loop4 Inv-loop3 μ-loop3
+mul-f c = omega arith
+
+array-copy-out-f :
+    tie.Need-array-copy-out-f Inv-loop μ-loop Inv-loop2 μ-loop2 Inv-loop4 μ-loop4 Inv-loop3 μ-loop3
+array-copy-out-f c = omega arith
+
+is-well-formed-requires :
+    tie.Need-is-well-formed-requires
+    Inv-loop
+    μ-loop
+    Inv-loop2
+    μ-loop2
+    Inv-loop4
+    μ-loop4
+    Inv-loop3
+    μ-loop3
+is-well-formed-requires c κs = search needs
+
+returns-2 :
+    tie.Need-returns-2 Inv-loop μ-loop Inv-loop2 μ-loop2 Inv-loop4 μ-loop4 Inv-loop3 μ-loop3
 returns-2 c =
-    let t = sym (c .before .are-well-formed .ensures) ∙ not-true (c .before .are-well-formed .result) (c .if2 .taken) in
-    sym (parts (c .before .before) ∙ rw t)
+    let l = c .before .before .before .before in
+    let e = l .before in
+    let files = e .before .before .args .t1 in
+    let n = e .before .counted .result in
+    let q : length files ≡ 256 = search needs in
+    let t = sym (c .before .is-well-formed .ensures) ∙ not-true (c .before .is-well-formed .result) (c .if2 .taken) in
+    let u = sym (l .loop .inv .3) ∙ all-found wellRecord (l .loop .i) n files past (omega arith) (omega arith) t in
+    sym (parts e ∙ rw u)
 
-are-blank-requires : tie.Need-are-blank-requires
-are-blank-requires c κs = search needs
+mul-column :
+    tie.Need-mul-column Inv-loop μ-loop Inv-loop2 μ-loop2 Inv-loop4 μ-loop4 Inv-loop3 μ-loop3
+mul-column c = omega arith
 
-returns-3 : tie.Need-returns-3
-returns-3 c =
+array-write-column :
+    tie.Need-array-write-column
+    Inv-loop
+    μ-loop
+    Inv-loop2
+    μ-loop2
+    Inv-loop4
+    μ-loop4
+    Inv-loop3
+    μ-loop3
+array-write-column c = omega arith
+
+add-i : tie.Need-add-i Inv-loop μ-loop Inv-loop2 μ-loop2 Inv-loop4 μ-loop4 Inv-loop3 μ-loop3
+add-i c = omega arith
+
+loop-less :
+    tie.Need-loop-less Inv-loop μ-loop Inv-loop2 μ-loop2 Inv-loop4 μ-loop4 Inv-loop3 μ-loop3
+loop-less c = omega arith
+
+loop-again :
+    tie.Need-loop-again Inv-loop μ-loop Inv-loop2 μ-loop2 Inv-loop4 μ-loop4 Inv-loop3 μ-loop3
+loop-again c =
+    let l = c .before .before .before .before .before in
+    let e = l .before in
+    let files = e .before .before .args .t1 in
+    let n = e .before .counted .result in
+    let i = l .loop .i in
+    let column = l .loop .column in
+    let q : length files ≡ 256 = search needs in
+    let x = getD files i past .number .0 in
+    let t = sym (c .before .before .is-well-formed .ensures) ∙ not-false (c .before .before .is-well-formed .result) (c .before .if2 .left) in
+    let turn : put (set column i x) (i + 1) (numbers (run (i + 1) n files)) ≡ put column i (numbers (run i n files)) =
+    put-cons column i x (numbers (run (i + 1) n files)) (omega arith) ∙ ap (put column i) (sym (numbers-turn i n files (omega arith) (omega arith))) in
+    (omega arith, length-set column i x ∙ l .loop .inv .1, turn ∙ l .loop .inv .2, sym (all-passed wellRecord i n files past (omega arith) (omega arith) t) ∙ l .loop .inv .3)
+
+-- all records have passed, and the column holds their numbers
+passed : (c : tie.After-loop Inv-loop μ-loop Inv-loop2 μ-loop2 Inv-loop4 μ-loop4 Inv-loop3 μ-loop3) → let e = c .before .before in
+    all wellRecord (take (e .before .counted .result) (e .before .before .args .t1)) ≡ true
+unfolding all
+passed c =
     let e = c .before .before in
-    let t = sym (e .before .are-well-formed .ensures) ∙ not-false (e .before .are-well-formed .result) (e .if2 .left) in
-    let u = sym (c .before .are-blank .ensures) ∙ not-true (c .before .are-blank .result) (c .if3 .taken) in
-    sym (parts (e .before .before) ∙ rw (t, u))
+    sym (c .before .loop .inv .3) ∙ rw (run-past (c .before .loop .i) (e .before .counted .result) (e .before .before .args .t1) (omega arith))
 
-numbers-of-requires : tie.Need-numbers-of-requires
-numbers-of-requires c κs = search needs
+column : (c : tie.After-loop Inv-loop μ-loop Inv-loop2 μ-loop2 Inv-loop4 μ-loop4 Inv-loop3 μ-loop3) → let e = c .before .before in
+    c .before .loop .column ≡ put (replicate 256 0) 0 (numbers (run 0 (e .before .counted .result) (e .before .before .args .t1)))
+column c =
+    let e = c .before .before in
+    let none = numbers-ended (c .before .loop .i) (e .before .counted .result) (e .before .before .args .t1) (omega arith) in
+    sym (ap (put (c .before .loop .column) (c .before .loop .i)) none ∙ put-nil (c .before .loop .column) (c .before .loop .i)) ∙ c .before .loop .inv .2
 
-sub-no-twice : tie.Need-sub-no-twice
-sub-no-twice c = search needs
+loop2-holds :
+    tie.Need-loop2-holds Inv-loop μ-loop Inv-loop2 μ-loop2 Inv-loop4 μ-loop4 Inv-loop3 μ-loop3
+loop2-holds c =
+    let e = c .before .before in
+    let same : c .before .loop .i ≡ e .before .counted .result = omega arith in
+    (omega arith, ap (λ (k : ℕ). all isBlank (drop k (e .before .before .args .t1))) same)
 
-part-no-twice-start : tie.Need-part-no-twice-start
-part-no-twice-start c = search needs
+mul-is-blank :
+    tie.Need-mul-is-blank Inv-loop μ-loop Inv-loop2 μ-loop2 Inv-loop4 μ-loop4 Inv-loop3 μ-loop3
+mul-is-blank c = omega arith
 
-part-no-twice-end : tie.Need-part-no-twice-end
-part-no-twice-end c = search needs
+array-copy-out-is-blank :
+    tie.Need-array-copy-out-is-blank
+    Inv-loop
+    μ-loop
+    Inv-loop2
+    μ-loop2
+    Inv-loop4
+    μ-loop4
+    Inv-loop3
+    μ-loop3
+array-copy-out-is-blank c = omega arith
 
-no-twice-requires : tie.Need-no-twice-requires
+is-blank-requires :
+    tie.Need-is-blank-requires
+    Inv-loop
+    μ-loop
+    Inv-loop2
+    μ-loop2
+    Inv-loop4
+    μ-loop4
+    Inv-loop3
+    μ-loop3
+is-blank-requires c κs = search needs
+
+returns-3 :
+    tie.Need-returns-3 Inv-loop μ-loop Inv-loop2 μ-loop2 Inv-loop4 μ-loop4 Inv-loop3 μ-loop3
+returns-3 c =
+    let l = c .before .before .before .before in
+    let r = l .before in
+    let e = r .before .before in
+    let files = e .before .before .args .t1 in
+    let i = l .loop2 .i in
+    let q : length files ≡ 256 = search needs in
+    let t = sym (c .before .is-blank .ensures) ∙ not-true (c .before .is-blank .result) (c .if3 .taken) in
+    let u = sym (l .loop2 .inv .1) ∙ all-here isBlank (drop i files) (drop (i + 1) files) (getD files i past) (rest-cons files i past (omega arith)) t in
+    sym (parts e ∙ rw (passed r, u))
+
+add-i-2 : tie.Need-add-i-2 Inv-loop μ-loop Inv-loop2 μ-loop2 Inv-loop4 μ-loop4 Inv-loop3 μ-loop3
+add-i-2 c = omega arith
+
+loop2-less :
+    tie.Need-loop2-less Inv-loop μ-loop Inv-loop2 μ-loop2 Inv-loop4 μ-loop4 Inv-loop3 μ-loop3
+loop2-less c = omega arith
+
+loop2-again :
+    tie.Need-loop2-again Inv-loop μ-loop Inv-loop2 μ-loop2 Inv-loop4 μ-loop4 Inv-loop3 μ-loop3
+loop2-again c =
+    let l = c .before .before .before .before in
+    let e = l .before .before .before in
+    let files = e .before .before .args .t1 in
+    let i = l .loop2 .i in
+    let q : length files ≡ 256 = search needs in
+    let t = sym (c .before .is-blank .ensures) ∙ not-false (c .before .is-blank .result) (c .if3 .left) in
+    (omega arith, sym (all-later isBlank (drop i files) (drop (i + 1) files) (getD files i past) (rest-cons files i past (omega arith)) t) ∙ l .loop2 .inv .1)
+
+sub-no-twice :
+    tie.Need-sub-no-twice Inv-loop μ-loop Inv-loop2 μ-loop2 Inv-loop4 μ-loop4 Inv-loop3 μ-loop3
+sub-no-twice c = omega arith
+
+part-no-twice-start :
+    tie.Need-part-no-twice-start
+    Inv-loop
+    μ-loop
+    Inv-loop2
+    μ-loop2
+    Inv-loop4
+    μ-loop4
+    Inv-loop3
+    μ-loop3
+part-no-twice-start c = omega arith
+
+part-no-twice-end :
+    tie.Need-part-no-twice-end
+    Inv-loop
+    μ-loop
+    Inv-loop2
+    μ-loop2
+    Inv-loop4
+    μ-loop4
+    Inv-loop3
+    μ-loop3
+part-no-twice-end c = omega arith
+
+no-twice-requires :
+    tie.Need-no-twice-requires
+    Inv-loop
+    μ-loop
+    Inv-loop2
+    μ-loop2
+    Inv-loop4
+    μ-loop4
+    Inv-loop3
+    μ-loop3
 no-twice-requires c κs = search needs
 
--- what is lent to no_twice are the numbers of all files
-distinct-is : (c : tie.After-no-twice) → let s = c .before .before .before .before .before .before .before .before .before in
-    c .no-twice .result ≡ distinct (numbers (map fileOf (take (s .counted .result) (s .before .args .files))))
-distinct-is c =
-    let m = c .before .before .before in
-    let s = m .before .before .before .before .before .before in
-    let files = s .before .args .files in
+-- all empty places are blank
+blank-after : (c : tie.After-loop2 Inv-loop μ-loop Inv-loop2 μ-loop2 Inv-loop4 μ-loop4 Inv-loop3 μ-loop3) → let e = c .before .before .before .before in
+    all isBlank (drop (e .before .counted .result) (e .before .before .args .t1)) ≡ true
+unfolding all
+blank-after c =
+    let e = c .before .before .before .before in
+    let files = e .before .before .args .t1 in
     let q : length files ≡ 256 = search needs in
-    c .no-twice .ensures ∙ ap distinct (column-is (s .counted .result) files (replicate 256 0) (m .numbers-of .result) (omega arith) (m .numbers-of .ensures))
+    let ended : length files ≤ c .before .loop2 .i = omega arith in
+    sym (c .before .loop2 .inv .1) ∙ rw (drop-of-length-le files ended)
 
-returns-4 : tie.Need-returns-4
+-- what is lent to no_twice are the numbers of all files
+distinct-is : (c : tie.After-no-twice Inv-loop μ-loop Inv-loop2 μ-loop2 Inv-loop4 μ-loop4 Inv-loop3 μ-loop3) → let e = c .before .before .before .before .before .before .before in
+    c .no-twice .result ≡ distinct (numbers (map fileOf (take (e .before .counted .result) (e .before .before .args .t1))))
+distinct-is c =
+    let r = c .before .before .before .before .before in
+    let e = r .before .before in
+    let files = e .before .before .args .t1 in
+    let q : length files ≡ 256 = search needs in
+    c .no-twice .ensures ∙ ap distinct (column-is (e .before .counted .result) files (replicate 256 0) (r .before .loop .column) (omega arith) (column r))
+
+-- the order decides, once the numbers have passed
+order-decides : (c : tie.Else4 Inv-loop μ-loop Inv-loop2 μ-loop2 Inv-loop4 μ-loop4 Inv-loop3 μ-loop3) → let e = c .before .before .before .before .before .before .before .before in
+    wellLevels (e .before .before .args .t1) (e .before .before .args .t2) ≡ levelwise inOrder 0 (levelsOf (e .before .before .args .t1) (e .before .before .args .t2))
+order-decides c =
+    let b = c .before .before .before .before in
+    let r = b .before .before in
+    let v = sym (distinct-is (c .before)) ∙ not-false (c .before .no-twice .result) (c .if4 .left) in
+    parts (r .before .before) ∙ rw (passed r, blank-after b, v)
+
+returns-4 :
+    tie.Need-returns-4 Inv-loop μ-loop Inv-loop2 μ-loop2 Inv-loop4 μ-loop4 Inv-loop3 μ-loop3
 returns-4 c =
-    let f = c .before .before .before .before .before in
-    let e = f .before .before in
-    let t = sym (e .before .are-well-formed .ensures) ∙ not-false (e .before .are-well-formed .result) (e .if2 .left) in
-    let u = sym (f .before .are-blank .ensures) ∙ not-false (f .before .are-blank .result) (f .if3 .left) in
+    let b = c .before .before .before .before in
+    let r = b .before .before in
     let v = sym (distinct-is (c .before)) ∙ not-true (c .before .no-twice .result) (c .if4 .taken) in
-    sym (parts (e .before .before) ∙ rw (t, u, v))
+    sym (parts (r .before .before) ∙ rw (passed r, blank-after b, v))
 
-are-in-order-requires : tie.Need-are-in-order-requires
-are-in-order-requires c κs = search needs
+loop3-holds :
+    tie.Need-loop3-holds Inv-loop μ-loop Inv-loop2 μ-loop2 Inv-loop4 μ-loop4 Inv-loop3 μ-loop3
+loop3-holds c = (omega arith, omega arith, refl)
 
-returns-5 : tie.Need-returns-5
+mul-to : tie.Need-mul-to Inv-loop μ-loop Inv-loop2 μ-loop2 Inv-loop4 μ-loop4 Inv-loop3 μ-loop3
+mul-to c = omega arith
+
+array-read-to :
+    tie.Need-array-read-to Inv-loop μ-loop Inv-loop2 μ-loop2 Inv-loop4 μ-loop4 Inv-loop3 μ-loop3
+array-read-to c = omega arith
+
+add-to : tie.Need-add-to Inv-loop μ-loop Inv-loop2 μ-loop2 Inv-loop4 μ-loop4 Inv-loop3 μ-loop3
+add-to c =
+    let o = c .before in
+    let e = o .before .before .before .before .before .before .before .before .before in
+    omega (arith, sum-turn (e .before .before .args .t2) (o .loop3 .level) (omega arith))
+
+add-next : tie.Need-add-next Inv-loop μ-loop Inv-loop2 μ-loop2 Inv-loop4 μ-loop4 Inv-loop3 μ-loop3
+add-next c = omega arith
+
+loop4-holds :
+    tie.Need-loop4-holds Inv-loop μ-loop Inv-loop2 μ-loop2 Inv-loop4 μ-loop4 Inv-loop3 μ-loop3
+loop4-holds c =
+    let o = c .before in
+    let e = o .before .before .before .before .before .before .before .before .before in
+    let a = e .before .before .args in
+    let same : o .loop3 .from + 1 - 1 ≡ o .loop3 .from = omega arith in (
+      omega arith,
+      omega (arith, sum-turn (a .t2) (o .loop3 .level) (omega arith)),
+      ap (λ (i : ℕ). inOrder (o .loop3 .level) (run i (o .loop3 .from + getD (a .t2) (o .loop3 .level) 0) (a .t1))) same,
+    )
+
+sub-may-follow :
+    tie.Need-sub-may-follow Inv-loop μ-loop Inv-loop2 μ-loop2 Inv-loop4 μ-loop4 Inv-loop3 μ-loop3
+sub-may-follow c = omega arith
+
+mul-may-follow :
+    tie.Need-mul-may-follow Inv-loop μ-loop Inv-loop2 μ-loop2 Inv-loop4 μ-loop4 Inv-loop3 μ-loop3
+mul-may-follow c = omega arith
+
+array-copy-out-may-follow :
+    tie.Need-array-copy-out-may-follow
+    Inv-loop
+    μ-loop
+    Inv-loop2
+    μ-loop2
+    Inv-loop4
+    μ-loop4
+    Inv-loop3
+    μ-loop3
+array-copy-out-may-follow c = omega arith
+
+mul-may-follow-2 :
+    tie.Need-mul-may-follow-2 Inv-loop μ-loop Inv-loop2 μ-loop2 Inv-loop4 μ-loop4 Inv-loop3 μ-loop3
+mul-may-follow-2 c = omega arith
+
+array-copy-out-may-follow-2 :
+    tie.Need-array-copy-out-may-follow-2
+    Inv-loop
+    μ-loop
+    Inv-loop2
+    μ-loop2
+    Inv-loop4
+    μ-loop4
+    Inv-loop3
+    μ-loop3
+array-copy-out-may-follow-2 c = omega arith
+
+may-follow-requires :
+    tie.Need-may-follow-requires
+    Inv-loop
+    μ-loop
+    Inv-loop2
+    μ-loop2
+    Inv-loop4
+    μ-loop4
+    Inv-loop3
+    μ-loop3
+may-follow-requires c κs = search needs
+
+returns-5 :
+    tie.Need-returns-5 Inv-loop μ-loop Inv-loop2 μ-loop2 Inv-loop4 μ-loop4 Inv-loop3 μ-loop3
 returns-5 c =
-    let f = c .before .before .before .before .before .before in
-    let e = f .before .before in
-    let t = sym (e .before .are-well-formed .ensures) ∙ not-false (e .before .are-well-formed .result) (e .if2 .left) in
-    let u = sym (f .before .are-blank .ensures) ∙ not-false (f .before .are-blank .result) (f .if3 .left) in
-    let v = sym (distinct-is (c .before .before)) ∙ not-false (c .before .before .no-twice .result) (c .before .if4 .left) in
-    sym (parts (e .before .before) ∙ rw (t, u, v) (sym (c .are-in-order .ensures)))
+    let m = c .before .before .before .before .before in
+    let o = m .before .before in
+    let d = o .before in
+    let e = d .before .before .before .before .before .before .before .before in
+    let a = e .before .before .args in
+    let to = o .loop3 .from + getD (a .t2) (o .loop3 .level) 0 in
+    let q : length (a .t1) ≡ 256 = search needs in
+    let t = sym (c .before .may-follow .ensures) ∙ not-true (c .before .may-follow .result) (c .if5 .taken) in
+    let broken = sym (m .loop4 .inv .2) ∙ next-fails (o .loop3 .level) (m .loop4 .next) to (a .t1) (omega arith) (omega arith) (omega arith) t in
+    sym (order-decides d ∙ (sym (o .loop3 .inv .2) ∙ order-failed (a .t1) (a .t2) (o .loop3 .level) (o .loop3 .from) (omega arith) broken))
+
+add-next-2 :
+    tie.Need-add-next-2 Inv-loop μ-loop Inv-loop2 μ-loop2 Inv-loop4 μ-loop4 Inv-loop3 μ-loop3
+add-next-2 c = omega arith
+
+loop4-less :
+    tie.Need-loop4-less Inv-loop μ-loop Inv-loop2 μ-loop2 Inv-loop4 μ-loop4 Inv-loop3 μ-loop3
+loop4-less c = omega arith
+
+loop4-again :
+    tie.Need-loop4-again Inv-loop μ-loop Inv-loop2 μ-loop2 Inv-loop4 μ-loop4 Inv-loop3 μ-loop3
+loop4-again c =
+    let m = c .before .before .before .before .before in
+    let o = m .before .before in
+    let e = o .before .before .before .before .before .before .before .before .before in
+    let a = e .before .before .args in
+    let to = o .loop3 .from + getD (a .t2) (o .loop3 .level) 0 in
+    let q : length (a .t1) ≡ 256 = search needs in
+    let t = sym (c .before .may-follow .ensures) ∙ not-false (c .before .may-follow .result) (c .if5 .left) in (
+      omega arith,
+      omega arith,
+      sym (next-follows (o .loop3 .level) (m .loop4 .next) to (a .t1) (omega arith) (omega arith) (omega arith) t) ∙ m .loop4 .inv .2,
+    )
+
+add-level :
+    tie.Need-add-level Inv-loop μ-loop Inv-loop2 μ-loop2 Inv-loop4 μ-loop4 Inv-loop3 μ-loop3
+add-level c = omega arith
+
+loop3-less :
+    tie.Need-loop3-less Inv-loop μ-loop Inv-loop2 μ-loop2 Inv-loop4 μ-loop4 Inv-loop3 μ-loop3
+loop3-less c = omega arith
+
+loop3-again :
+    tie.Need-loop3-again Inv-loop μ-loop Inv-loop2 μ-loop2 Inv-loop4 μ-loop4 Inv-loop3 μ-loop3
+loop3-again c =
+    let o = c .before .before .before in
+    let e = o .before .before .before .before .before .before .before .before .before in
+    let a = e .before .before .args in
+    let to = o .loop3 .from + getD (a .t2) (o .loop3 .level) 0 in
+    let q : length (a .t1) ≡ 256 = search needs in
+    let t = sym (c .before .loop4 .inv .2) ∙ none-next (o .loop3 .level) (c .before .loop4 .next) to (a .t1) (omega arith) (omega arith) in (
+      omega arith,
+      omega (arith, sum-turn (a .t2) (o .loop3 .level) (omega arith)),
+      sym (order-passed (a .t1) (a .t2) (o .loop3 .level) (o .loop3 .from) (omega arith) t) ∙ o .loop3 .inv .2,
+    )
+
+returns-6 :
+    tie.Need-returns-6 Inv-loop μ-loop Inv-loop2 μ-loop2 Inv-loop4 μ-loop4 Inv-loop3 μ-loop3
+returns-6 c =
+    let d = c .before .before in
+    let e = d .before .before .before .before .before .before .before .before in
+    let a = e .before .before .args in
+    sym (order-decides d ∙ (sym (c .before .loop3 .inv .2) ∙ order-ended (a .t1) (a .t2) (c .before .loop3 .level) (c .before .loop3 .from) (omega arith)))
 
 pub are-well-formed-spec : {M : Type 1} → statement M
 are-well-formed-spec =
     tie.close
     (tie.spec
+    Inv-loop
+    μ-loop
+    Inv-loop2
+    μ-loop2
+    Inv-loop4
+    μ-loop4
+    Inv-loop3
+    μ-loop3
     counted-requires
     returns
-    are-well-formed-requires
+    loop-holds
+    mul-f
+    array-copy-out-f
+    is-well-formed-requires
     returns-2
-    are-blank-requires
+    mul-column
+    array-write-column
+    add-i
+    loop-less
+    loop-again
+    loop2-holds
+    mul-is-blank
+    array-copy-out-is-blank
+    is-blank-requires
     returns-3
-    numbers-of-requires
+    add-i-2
+    loop2-less
+    loop2-again
     sub-no-twice
     part-no-twice-start
     part-no-twice-end
     no-twice-requires
     returns-4
-    are-in-order-requires
-    returns-5)
+    loop3-holds
+    mul-to
+    array-read-to
+    add-to
+    add-next
+    loop4-holds
+    sub-may-follow
+    mul-may-follow
+    array-copy-out-may-follow
+    mul-may-follow-2
+    array-copy-out-may-follow-2
+    may-follow-requires
+    returns-5
+    add-next-2
+    loop4-less
+    loop4-again
+    add-level
+    loop3-less
+    loop3-again
+    returns-6)

@@ -1,0 +1,96 @@
+-- Big-endian numbers: lists of bytes of one length stand in the order of the numbers that they are, so that several bytes are compared at once. Assumes nothing.
+use Prim.Native.Nat.{ℕ, zero, suc, _+_, _*_, _<_}
+use mathlib.Core.Path.{_≡_, refl, sym, ap, _∙_}
+use mathlib.Core.Bool.{Bool, true, false, _&&_}
+use mathlib.Core.List.{List, [], _∷_}
+use native.Mathlib.Omega.{arith}
+use lib.Dec.{ltb, eqb}
+use lib.ListN.{length, take, drop, take-append-drop}
+use lib.Seq.{drop-drop}
+use lib.Pow.{areBytes}
+use borrow.Author.Tests.{lt-ltb, le-ltb, ltb-true, ltb-false, eqb-true}
+use Rattle.lemmas.specs.ListLaws.{and-left, and-right}
+use Rattle.lemmas.specs.Lists.{all}
+use Rattle.lemmas.specs.Maps.{all-append}
+use Rattle.lemmas.specs.Order.{byFirst, lexb, lex-same}
+
+-- the number that goes on from x with these bytes, the first one the greatest
+unfoldable pub big : ℕ → List ℕ → ℕ
+big x [] = x
+big x (b ∷ bs) = big (x * 256 + b) bs
+
+-- the first byte of a list of bytes, and the others
+first-byte : (c : ℕ) (a : List ℕ) → areBytes (c ∷ a) ≡ true → c < 256
+first-byte c a h = ltb-true c 256 (and-left (ltb c 256) (areBytes a) h)
+
+other-bytes : (c : ℕ) (a : List ℕ) → areBytes (c ∷ a) ≡ true → areBytes a ≡ true
+other-bytes c a h = and-right (ltb c 256) (areBytes a) h
+
+-- the smaller start decides, whatever follows
+pub big-start : (x y : ℕ) (a b : List ℕ) → length a ≡ length b → areBytes a ≡ true → x < y → big x a < big y b
+unfolding big
+big-start x y [] [] e h l = l
+big-start x y [] (d ∷ b) e h l = absurd (omega (arith, e))
+big-start x y (c ∷ a) [] e h l = absurd (omega (arith, e))
+big-start x y (c ∷ a) (d ∷ b) e h l =
+    big-start (x * 256 + c) (y * 256 + d) a b (omega (arith, e)) (other-bytes c a h) (omega (arith, first-byte c a h))
+
+-- numbers that start alike stand as their bytes
+pub big-order : (x : ℕ) (a b : List ℕ) → length a ≡ length b → areBytes a ≡ true → areBytes b ≡ true → lexb a b ≡ ltb (big x a) (big x b)
+unfolding big lexb byFirst
+big-order x [] [] e h k = sym (le-ltb x x (omega arith))
+big-order x [] (d ∷ b) e h k = absurd (omega (arith, e))
+big-order x (c ∷ a) [] e h k = absurd (omega (arith, e))
+big-order x (c ∷ a) (d ∷ b) e h k = go (ltb c d) (ltb d c) refl refl (big-order (x * 256 + c) a b (omega (arith, e)) (other-bytes c a h) (other-bytes d b k))
+  where
+    go : (s t : Bool) → ltb c d ≡ s → ltb d c ≡ t → lexb a b ≡ ltb (big (x * 256 + c) a) (big (x * 256 + c) b)
+        → byFirst (ltb c d) (ltb d c) (lexb a b) ≡ ltb (big (x * 256 + c) a) (big (x * 256 + d) b)
+    go true t p q r =
+        rw p (sym (lt-ltb (big (x * 256 + c) a) (big (x * 256 + d) b) (big-start (x * 256 + c) (x * 256 + d) a b (omega (arith, e)) (other-bytes c a h) (omega (arith, ltb-true c d p)))))
+    go false true p q r =
+        let l = big-start (x * 256 + d) (x * 256 + c) b a (omega (arith, e)) (other-bytes d b k) (omega (arith, ltb-true d c q)) in
+        rw (p, q) (sym (le-ltb (big (x * 256 + c) a) (big (x * 256 + d) b) (omega arith)))
+    go false false p q r =
+        let same : c ≡ d = omega (arith, ltb-false c d p, ltb-false d c q) in
+        rw (p, q) (r ∙ ap (λ (z : ℕ). ltb (big (x * 256 + c) a) (big (x * 256 + z) b)) same)
+
+-- bytes whose numbers are the same are the same
+pub big-same : (a b : List ℕ) → length a ≡ length b → areBytes a ≡ true → areBytes b ≡ true → big 0 a ≡ big 0 b → a ≡ b
+big-same a b e h k n =
+    lex-same a b (big-order 0 a b e h k ∙ le-ltb (big 0 a) (big 0 b) (omega arith)) (big-order 0 b a (sym e) k h ∙ le-ltb (big 0 b) (big 0 a) (omega arith))
+
+-- a number is 0 exactly if its bytes are
+pub big-zero : (x : ℕ) (a : List ℕ) → big x a ≡ 0 → (x ≡ 0) × (all (λ b. eqb b 0) a ≡ true)
+unfolding big all
+big-zero x [] e = (e, refl)
+big-zero x (c ∷ a) e =
+    let r = big-zero (x * 256 + c) a e in
+    let z : c ≡ 0 = omega (arith, r .0) in
+    (omega (arith, r .0), rw z (r .1))
+
+pub zeros-big : (a : List ℕ) → all (λ b. eqb b 0) a ≡ true → big 0 a ≡ 0
+unfolding big all
+zeros-big [] h = refl
+zeros-big (c ∷ a) h =
+    let z : c ≡ 0 = eqb-true c 0 (and-left (eqb c 0) (all (λ b. eqb b 0) a) h) in
+    rw z (zeros-big a (and-right (eqb c 0) (all (λ b. eqb b 0) a) h))
+
+-- bytes from a place on, n at once: zeros all, or not
+abbrev zeros : List ℕ → Bool
+zeros l = all (λ b. eqb b 0) l
+
+module _ (n i : ℕ) (a : List ℕ) where
+  in-two : zeros (drop i a) ≡ zeros (take n (drop i a)) && zeros (drop (i + n) a)
+  in-two =
+      ap zeros (sym (take-append-drop n (drop i a))) ∙ all-append (λ b. eqb b 0) (take n (drop i a)) (drop n (drop i a))
+      ∙ ap (λ (l : List ℕ). zeros (take n (drop i a)) && zeros l) (drop-drop n i a)
+
+  pub zeros-on : big 0 (take n (drop i a)) ≡ 0 → zeros (drop i a) ≡ zeros (drop (i + n) a)
+  zeros-on e = in-two ∙ rw (big-zero 0 (take n (drop i a)) e .1)
+
+  pub zeros-not : (big 0 (take n (drop i a)) ≡ 0 → ⊥) → zeros (drop i a) ≡ false
+  zeros-not e = go (zeros (take n (drop i a))) refl
+    where
+      go : (t : Bool) → zeros (take n (drop i a)) ≡ t → zeros (drop i a) ≡ false
+      go true h = absurd (e (zeros-big (take n (drop i a)) h))
+      go false h = in-two ∙ rw h
