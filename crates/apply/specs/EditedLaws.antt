@@ -1,20 +1,21 @@
 -- Laws of an edit on a store: its pointers and log number, the answer that a built result comes to, and the tests that go before. Assumes nothing.
-use Prim.Native.Nat.{ℕ}
+use Prim.Native.Nat.{ℕ, _≤_}
 use mathlib.Core.Path.{_≡_, refl, sym, ap, _∙_}
-use mathlib.Core.Bool.{true, false, _&&_}
-use mathlib.Core.List.{List, [], _∷_, _++_, map}
+use mathlib.Core.Bool.{true, false, not, _&&_}
+use mathlib.Core.List.{List, [], _∷_, _++_, map, List·Memᴰ·head as here, List·Memᴰ·tail as there}
 use mathlib.Core.Option.{Option, some}
+use borrow.Author.Tests.{ltb-false}
 use lib.Dec.{ltb}
 use lib.ListN.{length, take, set}
 use Rattle.lemmas.specs.Order.{clash}
-use Rattle.lemmas.specs.Lists.{all}
+use Rattle.lemmas.specs.Lists.{all, distinct, join}
 use Rattle.lemmas.specs.ListLaws.{and-right, both, all-in}
 use Rattle.lemmas.specs.Maps.{map-set}
 use Rattle.lemmas.specs.Each.{Each}
-use Rattle.model.specs.Answer.{Answer, gives, refused, _⇒_, firstOf, onAnswer}
-use Rattle.model.specs.AnswerLaws.{firstOf-on, firstOf-after}
+use Rattle.model.specs.Answer.{Answer, Refusal, gives, refused, _⇒_, firstOf}
+use Rattle.model.specs.AnswerLaws.{firstOf-after}
 use Rattle.model.specs.File as file
-use Rattle.model.specs.File.{File, State, full, goodFile, wellFormed}
+use Rattle.model.specs.File.{File, State, full, numbers, goodFile, wellFormed, noCollision, levelwise}
 use Rattle.model.specs.Edit as model
 use Rattle.model.specs.Edit.{survivorsFrom, pointed, logged, applied, resultRefusals, edit}
 use Rattle.answers.specs.Outcome.{outcomeOf}
@@ -22,20 +23,18 @@ use Rattle.answers.specs.declared.Outcome.the-variants.{Done, Refused}
 use Rattle.keys.specs.Key.{keyOf}
 use Rattle.counters.specs.Counters.{countersOf, countersRecord}
 use Rattle.counters.specs.declared.Counters.{Counters}
-use Rattle.records.specs.declared.FileRecord.{FileRecord}
-use Rattle.levels.specs.Levels.{wellLevels}
+use Rattle.levels.specs.Levels.{wellLevels, laidOut, countsOf}
 use Rattle.store.specs.Store.{pointerOf, pointerRecord, soundPointer, wellPointer, stateOf, storeOf, wellStore, onStore, leaves, stored, refusedBy}
 use Rattle.store.specs.StoreLaws as store
 use Rattle.store.specs.declared.Pointer.{Pointer}
 use Rattle.store.specs.declared.Store.{Store}
-use Rattle.store.specs.declared.Stored.{Stored}
 use Rattle.edits.specs.Edit.{editOf, pointingOf, passed, checks}
 use Rattle.edits.specs.EditLaws as entries
 use Rattle.edits.specs.EditLaws.{Few, Checked, passed-is, passed-refused, passed-none}
 use Rattle.edits.specs.declared.Edit.{Edit}
 use Rattle.edits.specs.declared.Pointing.{Pointing}
-use Rattle.apply.specs.Apply.{additionsFine, builtBy, builtOf, pointedBy}
-use Rattle.apply.specs.declared.Built.{Built}
+use Rattle.builder.specs.declared.Merged.{Merged}
+use Rattle.apply.specs.Apply.{additionsFine, crowding, acceptedBy, pointedBy}
 
 -- ---- pointers
 
@@ -54,48 +53,6 @@ pointers-after ps e shaped sound w =
     ap (pointedBy qs) (store.pointers-are ps shaped sound) ∙ pointed-records qs (map pointerOf ps)
     ∙ ap (λ (z : List model.Pointer). map pointerRecord (pointed z (map pointerOf ps))) (sym (entries.pointers-are e w))
 
--- ---- what a built result comes to
-
--- the state with other files, and the pointers and the log number of an edit
-abbrev stateWith : model.Edit → State → List (List File) → State
-stateWith m t fss = record { files = fss; pointers = pointed (m .pointers) (t .pointers); counters = logged (m .log) (t .counters) }
-
--- the state that is left, behind 6, 8 and 7
-result-on : (m : model.Edit) (t : State)
-    → firstOf (resultRefusals full (survivorsFrom m 0 (t .files))) (applied m t) ≡ onAnswer (stateWith m t) (firstOf (resultRefusals full (survivorsFrom m 0 (t .files))) (survivorsFrom m 0 (t .files)))
-unfolding applied
-result-on m t = firstOf-on (stateWith m t) (resultRefusals full (survivorsFrom m 0 (t .files))) (survivorsFrom m 0 (t .files))
-
--- a build that refuses has been refused
-built-refused : (files : List FileRecord) (counts : List ℕ) (a : Answer (List (List File))) (n : ℕ) → builtBy files counts a .outcome ≡ Refused n → a ≡ refused n
-unfolding builtBy
-built-refused files counts (gives ls) n q = let z : true ≡ false = cc in clash refl z
-built-refused files counts (refused k) n q = cc
-
-module _ (s : Store) (m : model.Edit) (b : Built) (e : b ≡ builtOf (s .files) (s .counts) (survivorsFrom m 0 (stateOf s .files))) where
-  -- the build refuses: the store as it was
-  pub rebuilt-refused : (n : ℕ) → b .outcome ≡ Refused n → refusedBy s n ≡ stored s (firstOf (resultRefusals full (survivorsFrom m 0 (stateOf s .files))) (applied m (stateOf s)))
-  unfolding refusedBy builtOf onAnswer
-  rebuilt-refused n h =
-      let ls = survivorsFrom m 0 (stateOf s .files) in
-      let a = built-refused (s .files) (s .counts) (firstOf (resultRefusals full ls) ls) n (ap (λ (x : Built). x .outcome) (sym e) ∙ h) in
-      ap (stored s) (sym (result-on m (stateOf s) ∙ ap (onAnswer (stateWith m (stateOf s))) a))
-
-  -- it succeeds: the files built, and only then the pointers and the log number
-  pub rebuilt-done : b .outcome ≡ Done → (ps : List Pointer) → ps ≡ map pointerRecord (pointed (m .pointers) (stateOf s .pointers))
-      → (c : Counters) → c ≡ countersRecord (logged (m .log) (stateOf s .counters))
-      → _≡_ {A = Stored} (record { outcome = Done; store = record { files = b .files; counts = b .counts; pointers = ps; counters = c } })
-      (stored s (firstOf (resultRefusals full (survivorsFrom m 0 (stateOf s .files))) (applied m (stateOf s))))
-  unfolding builtOf builtBy onAnswer stored leaves storeOf outcomeOf
-  rebuilt-done h ps p c q =
-      let ls = survivorsFrom m 0 (stateOf s .files) in
-      go (firstOf (resultRefusals full ls) ls) e ∙ ap (stored s) (sym (result-on m (stateOf s)))
-    where
-      go : (a : Answer (List (List File))) → b ≡ builtBy (s .files) (s .counts) a
-          → _≡_ {A = Stored} (record { outcome = Done; store = record { files = b .files; counts = b .counts; pointers = ps; counters = c } }) (stored s (onAnswer (stateWith m (stateOf s)) a))
-      go (gives ls) f = λ i. record { outcome = Done; store = record { files = f i .files; counts = f i .counts; pointers = p i; counters = q i } }
-      go (refused n) f = let o = ap (λ (x : Built). x .outcome) f in let z : true ≡ false = cc in clash refl z
-
 -- ---- the tests that go before: 14, 3, 9, the entries
 
 -- the outcome of an answer says whether it is refused
@@ -109,6 +66,57 @@ pub outcome-done : {A : Type 0} (a : Answer A) → outcomeOf a ≡ Done → (x :
 unfolding outcomeOf
 outcome-done (gives x) q = (x, refl)
 outcome-done (refused k) q = let z : true ≡ false = cc in clash refl z
+
+-- ---- what a planned result comes to
+
+-- neither 6 nor 8: there is room for all
+pub crowding-room : (ns : List ℕ) → passed (crowding ns) ≡ Done → length ns ≤ 256
+unfolding crowding full _⇒_
+crowding-room ns h = ltb-false 256 (length ns) (passed-none (crowding ns) h (ltb 256 (length ns) ⇒ 8) (there (here refl)))
+
+-- 6 and 8 of survivors, by numbers that are as many and stand twice just if theirs do; then 7
+result-refusals : (ns : List ℕ) (ls : List (List File)) → distinct ns ≡ distinct (numbers (join ls)) → length ns ≡ length (join ls)
+    → resultRefusals full ls ≡ crowding ns ++ ((not (levelwise noCollision 0 ls) ⇒ 7) ∷ [])
+unfolding resultRefusals crowding
+result-refusals ns ls d n = rw (d, n)
+
+module _ (s : Store) (m : model.Edit) (ns : List ℕ) (once : distinct ns ≡ distinct (numbers (join (survivorsFrom m 0 (stateOf s .files))))) (total : length ns ≡ length (join (survivorsFrom m 0 (stateOf s .files)))) where
+  -- 6 or 8 applies: the store as it was
+  pub rebuilt-crowded : (n : ℕ) → passed (crowding ns) ≡ Refused n → refusedBy s n ≡ stored s (firstOf (resultRefusals full (survivorsFrom m 0 (stateOf s .files))) (applied m (stateOf s)))
+  unfolding refusedBy
+  rebuilt-crowded n h =
+      let ls = survivorsFrom m 0 (stateOf s .files) in
+      let last = (not (levelwise noCollision 0 ls) ⇒ 7) ∷ [] in
+      let first = outcome-refused (firstOf (crowding ns ++ last) (applied m (stateOf s))) n (sym (passed-is (crowding ns ++ last) (applied m (stateOf s))) ∙ passed-refused last (crowding ns) n h) in
+      ap (stored s) (sym (ap (λ (rs : List Refusal). firstOf rs (applied m (stateOf s))) (result-refusals ns ls once total) ∙ first))
+
+  module _ (h : passed (crowding ns) ≡ Done) where
+    -- neither does: 7, or the state that is left
+    left : firstOf (resultRefusals full (survivorsFrom m 0 (stateOf s .files))) (applied m (stateOf s))
+        ≡ firstOf ((not (levelwise noCollision 0 (survivorsFrom m 0 (stateOf s .files))) ⇒ 7) ∷ []) (applied m (stateOf s))
+    left =
+        let ls = survivorsFrom m 0 (stateOf s .files) in
+        ap (λ (rs : List Refusal). firstOf rs (applied m (stateOf s))) (result-refusals ns ls once total)
+        ∙ firstOf-after (crowding ns) ((not (levelwise noCollision 0 ls) ⇒ 7) ∷ []) (applied m (stateOf s)) (passed-none (crowding ns) h)
+
+    -- survivors collide: the store as it was
+    pub rebuilt-colliding : levelwise noCollision 0 (survivorsFrom m 0 (stateOf s .files)) ≡ false
+        → refusedBy s 7 ≡ stored s (firstOf (resultRefusals full (survivorsFrom m 0 (stateOf s .files))) (applied m (stateOf s)))
+    unfolding refusedBy firstOf _⇒_
+    rebuilt-colliding c = ap (stored s) (sym (left ∙ rw c))
+
+    -- none do: the survivors, and only then the pointers and the log number
+    pub rebuilt-done : levelwise noCollision 0 (survivorsFrom m 0 (stateOf s .files)) ≡ true
+        → (x : Merged) → x .files ≡ laidOut (survivorsFrom m 0 (stateOf s .files)) → x .counts ≡ countsOf (survivorsFrom m 0 (stateOf s .files))
+        → (ps : List Pointer) → ps ≡ map pointerRecord (pointed (m .pointers) (stateOf s .pointers))
+        → (c : Counters) → c ≡ countersRecord (logged (m .log) (stateOf s .counters))
+        → acceptedBy x ps c ≡ stored s (firstOf (resultRefusals full (survivorsFrom m 0 (stateOf s .files))) (applied m (stateOf s)))
+    unfolding acceptedBy firstOf _⇒_ applied stored leaves storeOf outcomeOf
+    rebuilt-done apart x f n ps p c q =
+        let none : firstOf ((not (levelwise noCollision 0 (survivorsFrom m 0 (stateOf s .files))) ⇒ 7) ∷ []) (applied m (stateOf s)) ≡ gives (applied m (stateOf s)) = rw apart in
+        (λ i. record { outcome = Done; store = record { files = f i; counts = n i; pointers = p i; counters = q i } }) ∙ ap (stored s) (sym (left ∙ none))
+
+-- ---- the state and the entries
 
 module _ (t : State) (m : model.Edit) where
   -- a state that is not well-formed

@@ -1,4 +1,6 @@
 pub mod Apply
+pub mod ColumnLaws
 pub mod BuildLaws
+pub mod PlanLaws
 pub mod EditedLaws
 pub mod ApplyLaws

@@ -1,26 +1,25 @@
 // One edit on one store: accepted exactly if no refusal applies, and then exactly the files, pointers and log number that it names.
 ghost use mathlib.Core.Path.{_≡_};
-ghost use mathlib.Core.Bool.{true, false};
-ghost use Prim.Native.Nat.{_+_, _≤_};
-ghost use lib.ListN.{take};
-ghost use Rattle.lemmas.specs.Lists.{sum};
-ghost use Rattle.lemmas.specs.Slices.{parts};
-ghost use Rattle.model.specs.Answer as answer;
-ghost use Rattle.model.specs.Answer.{firstOf};
+ghost use mathlib.Core.Bool.{true};
+ghost use mathlib.Core.List.{[], _∷_, map};
+ghost use Prim.Native.Nat.{_≤_};
+ghost use lib.Dec.{ltb};
+ghost use lib.ListN.{length, take, replicate};
+ghost use Rattle.lemmas.specs.Lists.{distinct, join, sum};
+ghost use Rattle.lemmas.specs.Slices.{put};
+ghost use Rattle.model.specs.Answer.{firstOf, _⇒_};
 ghost use Rattle.model.specs.File.{full};
 ghost use Rattle.model.specs.Edit as model;
 ghost use Rattle.answers.specs.declared.Outcome.the-variants as outcome;
 ghost use Rattle.counters.specs.Counters.{countersOf, countersRecord};
 ghost use Rattle.records.specs.Record.{vacant};
-ghost use Rattle.levels.specs.Levels.{levelsOf, wellLevels};
+ghost use Rattle.records.specs.declared.FileRecord as declared;
 ghost use Rattle.store.specs.Store.{stateOf, wellStore, onStore, stored};
 ghost use Rattle.edits.specs.Edit.{editOf, logOf, passed, checks};
-ghost use Rattle.builder.specs.Builder.{stayersFrom, keptOf, sortedLevels, areLevels, merges, mergedOf};
-ghost use Rattle.builder.specs.StayLaws.{staysIn};
-ghost use Rattle.apply.specs.Apply.{deletionColumns, newsOf, builtBy, builtOf, additionsFine, pointedBy};
+ghost use Rattle.builder.specs.Builder.{areLevels, numberAt};
+ghost use Rattle.apply.specs.Apply.{deletionColumns, noKeys, newColumns, newsOf, levelsIn, stayPlaces, planOf, acceptedBy, pointedBy};
 use answers::Outcome;
 use answers::Refusal;
-use builder::Kept;
 use builder::Merged;
 use counters::Counters;
 use edits::Addition;
@@ -28,6 +27,7 @@ use edits::Deletion;
 use edits::Edit;
 use edits::NewLog;
 use edits::Pointing;
+use keys::Key;
 use records::FileRecord;
 use store::Pointer;
 use store::Store;
@@ -39,18 +39,20 @@ struct DeletionColumns {
     numbers: [u64; 256],
 }
 
-// The records of an edit's additions, with their levels and numbers side by side.
-struct News {
-    files: [FileRecord; 64],
+// The levels, the numbers and the smallest keys of an edit's additions, side by side.
+struct NewColumns {
     levels: [usize; 64],
     numbers: [u64; 64],
+    keys: [Key; 64],
 }
 
-// The levels that an edit makes, or the base with the number of a refusal.
-struct Built {
+// What an edit will make of a base: whether 6 or 8 applies; where the files that stay stand, level after level; the order of the additions, level after level.
+struct Plan {
     outcome: Outcome,
-    files: [FileRecord; 256],
+    places: [usize; 256],
     counts: [usize; 7],
+    order: [usize; 64],
+    new_counts: [usize; 7],
 }
 
 // The levels and the numbers of the first `count` deletions.
@@ -74,6 +76,38 @@ fn deletion_columns(deletions: [Deletion; 256], count: usize) -> DeletionColumns
     }
 }
 
+// Places for the keys of an edit's additions, all empty.
+fn no_keys() -> [Key; 64]
+    ensures { λ r. ⌜ r ≡ noKeys 64 ⌝ }
+{
+    [keys::BLANK_KEY; 64]
+}
+
+// The levels, the numbers and the smallest keys of the first `count` additions.
+fn new_columns(additions: [Addition; 64], count: usize) -> NewColumns
+    requires { ⌜ count ≤ 64 ⌝ }
+    ensures { λ r. ⌜ r ≡ newColumns (take count additions) ⌝ }
+{
+    let mut levels = [0usize; 64];
+    let mut numbers = [0u64; 64];
+    let mut keys = no_keys();
+    let mut i: usize = 0;
+    while i < count {
+        let a = additions[i];
+        let n = a.number;
+        let low = a.smallest;
+        levels[i] = a.level;
+        numbers[i] = n.0;
+        keys[i] = low;
+        i += 1;
+    }
+    NewColumns {
+        levels: levels,
+        numbers: numbers,
+        keys: keys,
+    }
+}
+
 // Places for an edit's additions, all empty.
 fn no_records() -> [FileRecord; 64]
     ensures { λ r. ⌜ r ≡ vacant 64 ⌝ }
@@ -82,13 +116,11 @@ fn no_records() -> [FileRecord; 64]
 }
 
 // What is kept of an edit's additions. Bytes past a key's end aren't read.
-fn new_records(additions: [Addition; 64], count: usize) -> News
+fn new_records(additions: [Addition; 64], count: usize) -> [FileRecord; 64]
     requires { ⌜ count ≤ 64 ⌝ }
     ensures { λ r. ⌜ r ≡ newsOf (take count additions) ⌝ }
 {
     let mut files = no_records();
-    let mut levels = [0usize; 64];
-    let mut numbers = [0u64; 64];
     let mut i: usize = 0;
     while i < count {
         let a = additions[i];
@@ -96,97 +128,82 @@ fn new_records(additions: [Addition; 64], count: usize) -> News
         let low = a.smallest;
         let high = a.largest;
         files[i] = records::record(n, a.size, low, high);
-        levels[i] = a.level;
-        numbers[i] = n.0;
         i += 1;
     }
-    News {
-        files: files,
-        levels: levels,
-        numbers: numbers,
-    }
+    files
 }
 
-// The base as it was, with the number of the refusal.
-fn refused(n: u8, files: [FileRecord; 256], counts: [usize; 7]) -> Built
-    ensures { λ r. ⌜ r ≡ builtBy files counts (answer.refused n) ⌝ }
+// The numbers of the first `size` files of a store, zeros past them.
+fn column_of(s: Store, size: usize) -> [u64; 256]
+    requires { ⌜ size ≤ 256 ⌝ }
+    ensures { λ r. ⌜ r ≡ put (replicate 256 0) 0 (map (λ (f : declared.FileRecord). f .number .0) (take size (s .files))) ⌝ }
 {
-    let outcome = Outcome::Refused(n);
-    Built {
-        outcome: outcome,
-        files: files,
-        counts: counts,
+    let mut column = [0u64; 256];
+    let mut i: usize = 0;
+    while i < size {
+        let f = s.files[i];
+        let n = f.number;
+        column[i] = n.0;
+        i += 1;
     }
+    column
 }
 
-// What stays of the base: the files that an edit does not leave deleted.
-fn remain(files: [FileRecord; 256], counts: [usize; 7], e: Edit, new: News) -> Kept
-    requires { ⌜ (sum counts ≤ 256) × (model.tooMany full (editOf e) ≡ false) × (new ≡ newsOf (take (e .«addition_count») (e .additions))) ⌝ }
-    ensures { λ r. ⌜ r ≡ keptOf files (stayersFrom (staysIn (editOf e)) 0 (parts files counts)) ⌝ }
+// 6 where a number stands twice among all survivors, then 8 where they are more than there is room for.
+fn crowded(twice: bool, total: usize) -> Outcome
+    ensures { λ r. ⌜ r ≡ passed ((twice ⇒ 6) ∷ (ltb 256 total ⇒ 8) ∷ []) ⌝ }
 {
-    let deletions = e.deletions;
-    let m = e.deletion_count;
-    let k = e.addition_count;
+    if twice {
+        return Outcome::Refused(Refusal::TWICE);
+    }
+    if 256 < total {
+        return Outcome::Refused(Refusal::ROOM);
+    }
+    Outcome::Done
+}
+
+// What the first m deletions and the first k additions of an edit will make of a base whose numbers stand in a column, none twice of those that stay.
+fn planned(
+    column: &[u64],
+    counts: [usize; 7],
+    deletions: [Deletion; 256],
+    m: usize,
+    additions: [Addition; 64],
+    k: usize,
+) -> Plan
+    requires { ⌜ (sum counts ≤ length (now column)) × (length (now column) ≤ 256) × (distinct (map (numberAt (now column)) (join (stayPlaces (now column) counts (take m deletions) (take k additions)))) ≡ true) × (m ≤ 256) × (k ≤ 64) × (areLevels (levelsIn (take k additions)) ≡ true) ⌝ }
+    ensures { λ r. ⌜ r ≡ planOf (now (column .entry)) counts (take m deletions) (take k additions) ⌝ }
+{
     let gone = deletion_columns(deletions, m);
     let gone_levels = gone.levels;
     let gone_numbers = gone.numbers;
+    let new = new_columns(additions, k);
     let new_levels = new.levels;
     let new_numbers = new.numbers;
-    builder::stay(
-        files,
+    let new_keys = new.keys;
+    let kept = builder::stay(
+        column,
         counts,
-        &gone_levels[0..m],
-        &gone_numbers[0..m],
-        &new_levels[0..k],
-        &new_numbers[0..k],
-    )
-}
-
-// What stays and the first k of what is new, put in order, merged level by level.
-fn unite(kept: Kept, new: News, k: usize) -> Merged
-    requires { ⌜ (k ≤ 64) × (sum (kept .counts) + k ≤ 256) × (areLevels (take k (new .levels)) ≡ true) ⌝ }
-    ensures { λ r. ⌜ r ≡ mergedOf (merges (parts (kept .files) (kept .counts)) (sortedLevels (take k (new .levels)) (take k (new .files)))) ⌝ }
-{
-    let new_files = new.files;
-    let new_levels = new.levels;
-    let arranged = builder::arrange(new_files, &new_levels[0..k]);
-    let arranged_files = arranged.files;
-    let arranged_counts = arranged.counts;
-    let kept_files = kept.files;
+        &gone_levels[..m],
+        &gone_numbers[..m],
+        &new_levels[..k],
+        &new_numbers[..k],
+    );
+    let places = kept.places;
     let kept_counts = kept.counts;
-    builder::merge(kept_files, kept_counts, arranged_files, arranged_counts)
-}
-
-// The levels that a checked edit makes of well-formed ones: 6, then 8, then 7, else the survivors.
-fn build(files: [FileRecord; 256], counts: [usize; 7], e: Edit) -> Built
-    requires { ⌜ (wellLevels files counts ≡ true) × (model.tooMany full (editOf e) ≡ false) × (additionsFine (editOf e) ≡ true) ⌝ }
-    ensures { λ r. ⌜ r ≡ builtOf files counts (model.survivorsFrom (editOf e) 0 (levelsOf files counts)) ⌝ }
-{
-    let additions = e.additions;
-    let k = e.addition_count;
-    let new = new_records(additions, k);
-    let new_numbers = new.numbers;
-    let kept = remain(files, counts, e, new);
-    let kept_files = kept.files;
     let n = kept.total;
-    let kept_numbers = records::numbers_of(kept_files, 0, n);
-    if builder::has_twice(&kept_numbers[0..n], &new_numbers[0..k]) {
-        return refused(Refusal::TWICE, files, counts);
-    }
-    if 256 < n + k {
-        return refused(Refusal::ROOM, files, counts);
-    }
-    let merged = unite(kept, new, k);
-    let made = merged.files;
-    let made_counts = merged.counts;
-    if !levels::are_in_order(made, made_counts) {
-        return refused(Refusal::COLLISION, files, counts);
-    }
-    let outcome = Outcome::Done;
-    Built {
+    let kept_numbers = builder::numbers_at(column, &places[..n]);
+    let twice = builder::has_twice(&kept_numbers[..n], &new_numbers[..k]);
+    let outcome = crowded(twice, n + k);
+    let arranged = builder::arrange(new_keys, &new_levels[..k]);
+    let order = arranged.order;
+    let new_counts = arranged.counts;
+    Plan {
         outcome: outcome,
-        files: made,
-        counts: made_counts,
+        places: places,
+        counts: kept_counts,
+        order: order,
+        new_counts: new_counts,
     }
 }
 
@@ -227,37 +244,64 @@ fn with_log(c: Counters, log: NewLog) -> Counters
     }
 }
 
+// A store of merged files, with its pointers and counters.
+fn accepted(merged: Merged, pointers: [Pointer; 7], counters: Counters) -> Stored
+    ensures { λ r. ⌜ r ≡ acceptedBy merged pointers counters ⌝ }
+{
+    let files = merged.files;
+    let counts = merged.counts;
+    let outcome = Outcome::Done;
+    Stored {
+        outcome: outcome,
+        store: Store {
+            files: files,
+            counts: counts,
+            pointers: pointers,
+            counters: counters,
+        },
+    }
+}
+
 // The rest of an edit whose store and entries have been tested: nothing is changed before the build is known to succeed.
 fn rebuild(s: Store, e: Edit) -> Stored
     requires { ⌜ (wellStore s ≡ true) × (passed (checks (stateOf s .counters) (editOf e)) ≡ outcome.Done) ⌝ }
     ensures { λ r. ⌜ r ≡ stored s (firstOf (model.resultRefusals full (model.survivorsFrom (editOf e) 0 (stateOf s .files))) (model.applied (editOf e) (stateOf s))) ⌝ }
 {
-    let files = s.files;
     let counts = s.counts;
-    let b = build(files, counts, e);
-    let o = b.outcome;
+    let size = levels::counted(counts);
+    let column = column_of(s, size);
+    let deletions = e.deletions;
+    let additions = e.additions;
+    let k = e.addition_count;
+    let p = planned(
+        &column[..size],
+        counts,
+        deletions,
+        e.deletion_count,
+        additions,
+        k,
+    );
+    let o = p.outcome;
     match o {
         Outcome::Refused(n) => store::refuse(s, n),
         Outcome::Done => {
-            let made = b.files;
-            let made_counts = b.counts;
+            let news = new_records(additions, k);
+            let files = s.files;
+            let places = p.places;
+            let kept_counts = p.counts;
+            let order = p.order;
+            let new_counts = p.new_counts;
+            let merged = builder::merge(files, places, kept_counts, news, order, new_counts);
+            if !merged.fits {
+                return store::refuse(s, Refusal::COLLISION);
+            }
             let pointers = s.pointers;
             let pointings = e.pointings;
             let pointed = point(pointers, pointings, e.pointing_count);
             let counters = s.counters;
             let log = e.log;
             let logged = with_log(counters, log);
-            let t = Store {
-                files: made,
-                counts: made_counts,
-                pointers: pointed,
-                counters: logged,
-            };
-            let outcome = Outcome::Done;
-            Stored {
-                outcome: outcome,
-                store: t,
-            }
+            accepted(merged, pointed, logged)
         }
     }
 }

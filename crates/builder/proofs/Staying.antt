@@ -10,8 +10,7 @@ use lib.ListN.{length, getD, drop, drop-of-length-le}
 use lib.Seq.{slice}
 use Rattle.lemmas.specs.Lists.{keep}
 use Rattle.lemmas.specs.Slices.{rest-cons, parts, parts-turn, parts-over}
-use Rattle.records.specs.declared.FileRecord.{FileRecord}
-use Rattle.builder.specs.Builder.{hasPair, staysBy, stayersFrom}
+use Rattle.builder.specs.Builder.{hasPair, staysBy, stayersBy}
 
 -- ---- a pair sought in two columns, from place i on
 module _ (l n i : ℕ) (ls ns : List ℕ) where
@@ -65,17 +64,17 @@ module _ (dl dn al an : List ℕ) (l n : ℕ) where
   unfolding staysBy
   stays-untouched t = rw t
 
--- ---- what stays of levels one after another in an array, from a level on
-module _ (test : ℕ → ℕ → Bool) (files : List FileRecord) (counts : List ℕ) (level from : ℕ) where
+-- ---- what stays of levels one after another, from a level on
+module _ {A : Type 0} (number : A → ℕ) (test : ℕ → ℕ → Bool) (all : List A) (counts : List ℕ) (level from : ℕ) where
   -- what stays of that level, and of those after it
   pub stayers-turn : level < length counts
-      → stayersFrom test level (parts (drop from files) (drop level counts))
-      ≡ keep (λ r. test level (r .number .0)) (slice from (from + getD counts level 0) files)
-      ∷ stayersFrom test (level + 1) (parts (drop (from + getD counts level 0) files) (drop (level + 1) counts))
-  unfolding stayersFrom
-  stayers-turn h = rw (parts-turn files counts level from h, add-one level)
+      → stayersBy number test level (parts (drop from all) (drop level counts))
+      ≡ keep (λ x. test level (number x)) (slice from (from + getD counts level 0) all)
+      ∷ stayersBy number test (level + 1) (parts (drop (from + getD counts level 0) all) (drop (level + 1) counts))
+  unfolding stayersBy
+  stayers-turn h = rw (parts-turn all counts level from h, add-one level)
 
   -- no level is left
-  pub stayers-over : length counts ≤ level → stayersFrom test level (parts (drop from files) (drop level counts)) ≡ []
-  unfolding stayersFrom
-  stayers-over h = rw (parts-over files counts level from h)
+  pub stayers-over : length counts ≤ level → stayersBy number test level (parts (drop from all) (drop level counts)) ≡ []
+  unfolding stayersBy
+  stayers-over h = rw (parts-over all counts level from h)

@@ -4,14 +4,15 @@ use mathlib.Core.Path.{_≡_, refl, sym, ap, _∙_}
 use mathlib.Core.Bool.{Bool, true, false, not, cond}
 use mathlib.Core.List.{List, [], _∷_, _++_, map, map-append, List·Memᴰ as In, Memᴰ·append-left as in-left, Memᴰ·append-right as in-right}
 use native.Mathlib.Omega.{arith}
-use lib.Dec.{eqb}
-use lib.ListN.{length, getD, take, drop, length-append}
-use lib.Seq.{slice, take-length}
+use borrow.Author.Tests.{ltb-true, ltb-false}
+use lib.Dec.{eqb, ltb}
+use lib.ListN.{length, getD, drop, length-append}
+use lib.Seq.{slice}
 use Rattle.lemmas.specs.Lists.{push, keep, chain, join, sort, upFrom}
 use Rattle.lemmas.specs.ListLaws.{and-left, and-right, sub-keep, sub-in}
-use Rattle.lemmas.specs.Slices.{parts, parts-turn, parts-over}
+use Rattle.lemmas.specs.Slices.{run-cons, run-end, parts, parts-turn, parts-over}
 use Rattle.lemmas.specs.Maps.{chain-map, sort-map, keep-map, keep-same, sort-sorted}
-use Rattle.lemmas.specs.Merge.{merge, merge-length, sort-append}
+use Rattle.lemmas.specs.Merge.{merge, merge-first, merge-second, merge-nil, merge-length, sort-append}
 use Rattle.model.specs.Key.{before}
 use Rattle.model.specs.File.{File, full, bySmallest, inOrder, levelwise}
 use Rattle.model.specs.Edit.{Addition, Edit, added, leftDeleted, survivors, survivorsFrom}
@@ -19,8 +20,39 @@ use Rattle.model.specs.Formed.{levels-sorted}
 use Rattle.model.specs.PickedLaws.{sub-ordered}
 use Rattle.records.specs.declared.FileRecord.{FileRecord}
 use Rattle.records.specs.Record.{fileOf}
-use Rattle.builder.specs.Builder.{stayersFrom, recordBefore, atLevel, sortedLevels, areLevels, merges}
-use Rattle.builder.specs.ArrangeLaws.{record-order, front-length}
+use Rattle.builder.specs.Builder.{stayersBy, stayersFrom, recordBefore, atLevel, sortedLevels, merges}
+use Rattle.builder.specs.ArrangeLaws.{record-order}
+
+-- ---- the runs of l from i to e and of r from j to f, merged: the next item
+module _ {A : Type 0} (lt : A → A → Bool) (l r : List A) (i e j f : ℕ) (d : A) where
+  -- of r: none of l is left, or it is strictly before
+  pub takes-second : i ≤ e → e ≤ length l → j < f → f ≤ length r → (i < e → lt (getD r j d) (getD l i d) ≡ true)
+      → merge lt (slice i e l) (slice j f r) ≡ getD r j d ∷ merge lt (slice i e l) (slice (j + 1) f r)
+  unfolding merge
+  takes-second h g p q t = go (ltb i e) refl
+    where
+      go : (b : Bool) → ltb i e ≡ b → merge lt (slice i e l) (slice j f r) ≡ getD r j d ∷ merge lt (slice i e l) (slice (j + 1) f r)
+      go true b =
+          let less : i < e = ltb-true i e b in
+          merge-second lt (slice i e l) (slice j f r) (slice (i + 1) e l) (slice (j + 1) f r) (getD l i d) (getD r j d) (run-cons i e l d less g) (run-cons j f r d p q) (t less)
+      go false b = rw (run-end i e l h (ltb-false i e b)) (run-cons j f r d p q)
+
+  -- of l: none of r is left, or that one is not strictly before
+  pub takes-first : i < e → e ≤ length l → j ≤ f → f ≤ length r → (j < f → lt (getD r j d) (getD l i d) ≡ false)
+      → merge lt (slice i e l) (slice j f r) ≡ getD l i d ∷ merge lt (slice (i + 1) e l) (slice j f r)
+  takes-first h g p q t = go (ltb j f) refl
+    where
+      go : (b : Bool) → ltb j f ≡ b → merge lt (slice i e l) (slice j f r) ≡ getD l i d ∷ merge lt (slice (i + 1) e l) (slice j f r)
+      go true b =
+          let less : j < f = ltb-true j f b in
+          merge-first lt (slice i e l) (slice j f r) (slice (i + 1) e l) (slice (j + 1) f r) (getD l i d) (getD r j d) (run-cons i e l d h g) (run-cons j f r d less q) (t less)
+      go false b =
+          rw (run-end j f r p (ltb-false j f b), merge-nil lt (slice i e l), merge-nil lt (slice (i + 1) e l)) (run-cons i e l d h g)
+
+  -- nothing is left of either
+  pub takes-none : i ≤ e → e ≤ i → j ≤ f → f ≤ j → merge lt (slice i e l) (slice j f r) ≡ []
+  unfolding merge
+  takes-none h g p q = rw (run-end i e l h g, run-end j f r p q)
 
 -- ---- levels merged level by level
 
@@ -113,7 +145,7 @@ module _ (e : Edit) (test : ℕ → ℕ → Bool) (same : (l n : ℕ) → test l
   levels-merged : (l : ℕ) (ls : List (List FileRecord)) → ((f : File) → In f (join (map (map fileOf) ls)) → before (f .largest) (f .smallest) ≡ false)
       → levelwise inOrder l (map (map fileOf) ls) ≡ true
       → map (map fileOf) (merges (stayersFrom test l ls) (map (λ l. sort recordBefore (atLevel l ks rs)) (upFrom l (length ls)))) ≡ survivorsFrom e l (map (map fileOf) ls)
-  unfolding merges stayersFrom survivorsFrom upFrom levelwise join
+  unfolding merges stayersBy survivorsFrom upFrom levelwise join
   levels-merged l [] good h = refl
   levels-merged l (fs ∷ ls) good h =
       let a = inOrder l (map fileOf fs) in
@@ -122,15 +154,7 @@ module _ (e : Edit) (test : ℕ → ℕ → Bool) (same : (l n : ℕ) → test l
 
   -- of all levels
   pub survivors-merged : (ls : List (List FileRecord)) → length ls ≡ full .levels → ((f : File) → In f (join (map (map fileOf) ls)) → before (f .largest) (f .smallest) ≡ false)
-      → levelwise inOrder 0 (map (map fileOf) ls) ≡ true → map (map fileOf) (merges (stayersFrom test 0 ls) (sortedLevels ks rs)) ≡ survivorsFrom e 0 (map (map fileOf) ls)
+      → levelwise inOrder 0 (map (map fileOf) ls) ≡ true → map (map fileOf) (merges (stayersFrom test 0 ls) (sortedLevels recordBefore ks rs)) ≡ survivorsFrom e 0 (map (map fileOf) ls)
   unfolding sortedLevels
   survivors-merged ls n good h =
       ap (λ (k : ℕ). map (map fileOf) (merges (stayersFrom test 0 ls) (map (λ l. sort recordBefore (atLevel l ks rs)) (upFrom 0 k)))) (sym n) ∙ levels-merged 0 ls good h
-
--- as many records in order as there are additions
-pub sorted-length : (ks : List ℕ) (rs : List FileRecord) → areLevels ks ≡ true → length ks ≡ length rs → length (join (sortedLevels ks rs)) ≡ length rs
-sorted-length ks rs h e =
-    let l : take (length rs) ks ≡ ks = ap (λ (n : ℕ). take n ks) (sym e) ∙ take-length ks in
-    let r : take (length rs) rs ≡ rs = take-length rs in
-    ap (λ (z : List ℕ). length (join (sortedLevels z rs))) (sym l) ∙ ap (λ (z : List FileRecord). length (join (sortedLevels (take (length rs) ks) z))) (sym r)
-    ∙ front-length ks rs (length rs) h (omega arith) (omega arith)

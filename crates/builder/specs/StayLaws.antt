@@ -6,19 +6,18 @@ use mathlib.Core.List.{List, [], _∷_, _++_, map, List·Memᴰ as In, Memᴰ·a
 use native.Mathlib.Omega.{arith}
 use native.Mathlib.Nat.{zero-add}
 use lib.Dec.{eqb}
-use lib.ListN.{length, getD}
-use Rattle.lemmas.specs.Lists.{keep, any, sort, chain, join, distinct, upFrom}
-use Rattle.lemmas.specs.ListLaws.{Sub, end, sub-keep, sub-append, sub-length, sub-in, and-left, and-right, both, tally, tally-append, tally-map, sort-tally, spread, tally-spread}
+use lib.ListN.{length}
+use Rattle.lemmas.specs.Lists.{keep, any, sort, join, distinct, upFrom}
+use Rattle.lemmas.specs.ListLaws.{Sub, end, sub-keep, sub-append, sub-length, and-left, and-right, both, tally, tally-append, tally-map, sort-tally, spread, tally-spread}
 use Rattle.lemmas.specs.Distinct.{distinct-tallies}
 use Rattle.lemmas.specs.Maps.{any-map, any-keep, keep-map, keep-same}
 use Rattle.model.specs.Key.{before}
 use Rattle.model.specs.File.{File, numbers, bySmallest, inOrder, levelwise}
 use Rattle.model.specs.Edit.{Deletion, Addition, Edit, added, deletes, adds, leftDeleted, survivors, survivorsFrom}
-use Rattle.model.specs.Formed.{levels-sorted}
 use Rattle.model.specs.PickedLaws.{sub-ordered, sub-distinct}
 use Rattle.records.specs.Record.{fileOf}
 use Rattle.records.specs.declared.FileRecord.{FileRecord}
-use Rattle.builder.specs.Builder.{hasPair, staysBy, stayersFrom}
+use Rattle.builder.specs.Builder.{hasPair, staysBy, stayersBy, stayersFrom}
 
 -- ---- an edit's entries as columns
 
@@ -76,40 +75,27 @@ module _ (e : Edit) (test : ℕ → ℕ → Bool) (same : (l n : ℕ) → test l
 
   -- of each level
   pub stayers-remain : (l : ℕ) (rss : List (List FileRecord)) → map (map fileOf) (stayersFrom test l rss) ≡ remainingFrom e l (map (map fileOf) rss)
-  unfolding stayersFrom remainingFrom
+  unfolding stayersBy remainingFrom
   stayers-remain l [] = refl
   stayers-remain l (rs ∷ rss) = rw (stayers-level l rs, stayers-remain (suc l) rss)
 
 -- ---- how many
 
 -- as many levels as before
-pub stayers-length : (test : ℕ → ℕ → Bool) (l : ℕ) (rss : List (List FileRecord)) → length (stayersFrom test l rss) ≡ length rss
-unfolding stayersFrom
-stayers-length test l [] = refl
-stayers-length test l (rs ∷ rss) = ap suc (stayers-length test (suc l) rss)
+pub stayers-length : {A : Type 0} (number : A → ℕ) (test : ℕ → ℕ → Bool) (l : ℕ) (xss : List (List A)) → length (stayersBy number test l xss) ≡ length xss
+unfolding stayersBy
+stayers-length number test l [] = refl
+stayers-length number test l (xs ∷ xss) = ap suc (stayers-length number test (suc l) xss)
 
--- the same of files
-pub remaining-length : (e : Edit) (l : ℕ) (fss : List (List File)) → length (remainingFrom e l fss) ≡ length fss
-unfolding remainingFrom
-remaining-length e l [] = refl
-remaining-length e l (fs ∷ fss) = ap suc (remaining-length e (suc l) fss)
-
--- the level at a place
-pub remaining-at : (e : Edit) (l : ℕ) (fss : List (List File)) (i : ℕ) → i < length fss → getD (remainingFrom e l fss) i [] ≡ remaining e (l + i) (getD fss i [])
-unfolding remainingFrom
-remaining-at e l [] i h = absurd (omega arith)
-remaining-at e l (fs ∷ fss) zero h = ap (λ (n : ℕ). remaining e n fs) (omega arith)
-remaining-at e l (fs ∷ fss) (suc i) h = remaining-at e (suc l) fss i (omega arith) ∙ ap (λ (n : ℕ). remaining e n (getD fss i [])) (omega arith)
-
--- the records of all levels, with some left out
-pub stayers-sub : (test : ℕ → ℕ → Bool) (l : ℕ) (rss : List (List FileRecord)) → Sub (join (stayersFrom test l rss)) (join rss)
-unfolding stayersFrom join
-stayers-sub test l [] = end
-stayers-sub test l (rs ∷ rss) = sub-append (sub-keep (λ r. test l (r .number .0)) rs) (stayers-sub test (suc l) rss)
+-- all levels together, with some left out
+pub stayers-sub : {A : Type 0} (number : A → ℕ) (test : ℕ → ℕ → Bool) (l : ℕ) (xss : List (List A)) → Sub (join (stayersBy number test l xss)) (join xss)
+unfolding stayersBy join
+stayers-sub number test l [] = end
+stayers-sub number test l (xs ∷ xss) = sub-append (sub-keep (λ x. test l (number x)) xs) (stayers-sub number test (suc l) xss)
 
 -- no more than before
-pub stayers-few : (test : ℕ → ℕ → Bool) (l : ℕ) (rss : List (List FileRecord)) → length (join (stayersFrom test l rss)) ≤ length (join rss)
-stayers-few test l rss = sub-length (stayers-sub test l rss)
+pub stayers-few : {A : Type 0} (number : A → ℕ) (test : ℕ → ℕ → Bool) (l : ℕ) (xss : List (List A)) → length (join (stayersBy number test l xss)) ≤ length (join xss)
+stayers-few number test l xss = sub-length (stayers-sub number test l xss)
 
 -- ---- how distinct and how ordered
 
@@ -133,10 +119,6 @@ module _ (e : Edit) (l : ℕ) (fs : List File) (good : (f : File) → In f fs �
   -- it is in order
   pub remaining-ordered : inOrder l (remaining e l fs) ≡ true
   remaining-ordered = sub-ordered l good (remaining-part e l fs) h
-
-  -- so it is ordered by smallest key
-  pub remaining-sorted : chain (λ f g. not (bySmallest g f)) (remaining e l fs) ≡ true
-  remaining-sorted = levels-sorted l (remaining e l fs) (λ f m. good f (sub-in f (remaining-part e l fs) m)) remaining-ordered
 
 -- each level in order
 pub remaining-levels : (e : Edit) (l : ℕ) (fss : List (List File)) → ((f : File) → In f (join fss) → before (f .largest) (f .smallest) ≡ false)

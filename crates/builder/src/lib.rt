@@ -1,40 +1,51 @@
-// The builder's parts: what stays of each level, additions in order, and one merge of the two. For callers of this repository, who have tested what each part requires.
+// The builder's parts: what stays of each level, additions in order, and one merge of the two. Each part works on places, so that a record is copied once. For callers of this repository, who have tested what each part requires.
 ghost use mathlib.Core.Path.{_≡_};
 ghost use mathlib.Core.Bool.{true, not};
-ghost use mathlib.Core.List.{[], _++_};
-ghost use Prim.Native.Nat.{_+_, _<_, _≤_};
-ghost use lib.ListN.{length, take};
+ghost use mathlib.Core.List.{[], _++_, map};
+ghost use Prim.Native.Nat.{ℕ, _+_, _<_, _≤_};
+ghost use lib.ListN.{length, take, replicate};
 ghost use lib.Seq.{slice};
-ghost use Rattle.lemmas.specs.Lists.{distinct, member, sum};
-ghost use Rattle.lemmas.specs.Slices.{parts, opened};
+ghost use Rattle.lemmas.specs.Lists.{distinct, member, sum, upFrom};
+ghost use Rattle.lemmas.specs.Slices.{put, parts, opened};
 ghost use Rattle.lemmas.specs.Loops.{before-first};
 ghost use Rattle.model.specs.Key.{before};
+ghost use Rattle.model.specs.File.{inOrder, levelwise};
 ghost use Rattle.keys.specs.Key.{keyOf};
-ghost use Rattle.records.specs.declared.FileRecord as declared;
-ghost use Rattle.builder.specs.Builder.{hasPair, staysBy, stayersFrom, keptOf, recordBefore, sortedLevels, areLevels, arrangedOf, merges, mergedOf};
+ghost use Rattle.builder.specs.Builder.{hasPair, staysBy, stayersBy, numberAt, placesOf, isBelow, keptOf, recordBefore, keyAt, keyBefore, sortedLevels, areLevels, arrangedOf, recordsAt, filesOf, merges, mergedOf};
 ghost use Rattle.builder.specs.Arrange.{levelsIn, addTo};
+ghost use Rattle.builder.specs.Neighbours.{clearOf, levelBegun, seenAfter};
 use keys::Key;
 use records::FileRecord;
 use records::Level;
 
-// What stays of the base, level after level in the first `total` places; past them the places are as they were.
+// Where the files of the base stand that stay, level after level in the first `total` places, zeros past them.
 pub struct Kept {
-    pub files: [FileRecord; 256],
+    pub places: [usize; 256],
     pub counts: [usize; 7],
     pub total: usize,
 }
 
-// Additions, level after level, by smallest key, blank records past them.
+// Where the additions stand, level after level, by smallest key, zeros past them.
 pub struct Arranged {
-    pub files: [FileRecord; 64],
+    pub order: [usize; 64],
     pub counts: [usize; 7],
     pub total: usize,
 }
 
-// Levels one after another, blank records past them.
+// Levels one after another, blank records past them, and whether none collide.
 pub struct Merged {
     pub files: [FileRecord; 256],
     pub counts: [usize; 7],
+    pub fits: bool,
+}
+
+// What has been seen of a level: the largest key of the last file; whether none collide so far; whether files may collide at all here; whether there is a last file; whether it was added.
+struct Seen {
+    end: Key,
+    fits: bool,
+    deep: bool,
+    follows: bool,
+    fresh: bool,
 }
 
 // Whether a level and a number stand side by side in two columns.
@@ -75,19 +86,19 @@ fn stays(
     true
 }
 
-// What stays of the base, level after level.
+// Where the files of each level stand that stay, by the column of the base's numbers.
 pub fn stay(
-    files: [FileRecord; 256],
+    numbers: &[u64],
     counts: [usize; 7],
     deleted_levels: &[usize],
     deleted: &[u64],
     added_levels: &[usize],
     added: &[u64],
 ) -> Kept
-    requires { ⌜ sum counts ≤ 256 ⌝ }
-    ensures { λ r. ⌜ r ≡ keptOf files (stayersFrom (staysBy (now («deleted_levels» .entry)) (now (deleted .entry)) (now («added_levels» .entry)) (now (added .entry))) 0 (parts files counts)) ⌝ }
+    requires { ⌜ (sum counts ≤ length (now numbers)) × (length (now numbers) ≤ 256) ⌝ }
+    ensures { λ r. ⌜ r ≡ keptOf (stayersBy (numberAt (now (numbers .entry))) (staysBy (now («deleted_levels» .entry)) (now (deleted .entry)) (now («added_levels» .entry)) (now (added .entry))) 0 (placesOf counts)) ⌝ }
 {
-    let mut out = files;
+    let mut places = [0usize; 256];
     let mut made = [0usize; 7];
     let mut n: usize = 0;
     let mut from: usize = 0;
@@ -97,17 +108,15 @@ pub fn stay(
         let begin = n;
         let mut i = from;
         while i < to {
-            let f = files[i];
-            let number = f.number;
             if stays(
                 deleted_levels,
                 deleted,
                 added_levels,
                 added,
                 level,
-                number.0,
+                numbers[i],
             ) {
-                out[n] = f;
+                places[n] = i;
                 n += 1;
             }
             i += 1;
@@ -117,10 +126,25 @@ pub fn stay(
         level += 1;
     }
     Kept {
-        files: out,
+        places: places,
         counts: made,
         total: n,
     }
+}
+
+// The numbers at places.
+pub fn numbers_at(numbers: &[u64], places: &[usize]) -> [u64; 256]
+    requires { ⌜ (length (now places) ≤ 256) × (isBelow (length (now numbers)) (now places) ≡ true) ⌝ }
+    ensures { λ r. ⌜ r ≡ put (replicate 256 0) 0 (map (numberAt (now (numbers .entry))) (now (places .entry))) ⌝ }
+{
+    let mut out = [0u64; 256];
+    let mut i: usize = 0;
+    while i < places.len() {
+        let at = places[i];
+        out[i] = numbers[at];
+        i += 1;
+    }
+    out
 }
 
 // Whether a number is among the first `end` of a list.
@@ -159,15 +183,15 @@ pub fn has_twice(kept: &[u64], added: &[u64]) -> bool
     false
 }
 
-// The first place of a run whose file is after the key, or its end.
-fn place(files: [FileRecord; 64], from: usize, end: usize, key: Key) -> usize
-    requires { ⌜ (from ≤ end) × (end ≤ 64) ⌝ }
-    ensures { λ r. ⌜ r ≡ from + before-first (λ (f : declared.FileRecord). before (keyOf key) (keyOf (f .smallest))) (slice from end files) ⌝ }
+// The first of a run of places whose key is after the key, or the run's end.
+fn place(keys: [Key; 64], order: [usize; 64], from: usize, end: usize, key: Key) -> usize
+    requires { ⌜ (from ≤ end) × (end ≤ 64) × (isBelow 64 order ≡ true) ⌝ }
+    ensures { λ r. ⌜ r ≡ from + before-first (λ (p : ℕ). before (keyOf key) (keyAt keys p)) (slice from end order) ⌝ }
 {
     let mut i = from;
     while i < end {
-        let f = files[i];
-        let k = f.smallest;
+        let p = order[i];
+        let k = keys[p];
         if keys::is_before(key, k) {
             return i;
         }
@@ -176,13 +200,13 @@ fn place(files: [FileRecord; 64], from: usize, end: usize, key: Key) -> usize
     i
 }
 
-// A file at its place, what stood there up to the end one place on.
-fn open_at(files: [FileRecord; 64], at: usize, end: usize, f: FileRecord) -> [FileRecord; 64]
+// A place put among others, what stood there up to the end one further on.
+fn open_at(order: [usize; 64], at: usize, end: usize, p: usize) -> [usize; 64]
     requires { ⌜ (at ≤ end) × (end < 64) ⌝ }
-    ensures { λ r. ⌜ r ≡ opened files at end f ⌝ }
+    ensures { λ r. ⌜ r ≡ opened order at end p ⌝ }
 {
-    let mut out = files;
-    let mut carry = f;
+    let mut out = order;
+    let mut carry = p;
     let mut k = at;
     while k < end {
         let t = out[k];
@@ -194,49 +218,48 @@ fn open_at(files: [FileRecord; 64], at: usize, end: usize, f: FileRecord) -> [Fi
     out
 }
 
-// No additions: blank records in all the room.
+// No additions: zeros in all the room.
 fn no_additions() -> Arranged
-    ensures { λ r. ⌜ r ≡ arrangedOf (sortedLevels [] []) ⌝ }
+    ensures { λ r. ⌜ r ≡ arrangedOf (sortedLevels (keyBefore []) [] []) ⌝ }
 {
     Arranged {
-        files: [records::BLANK; 64],
+        order: [0usize; 64],
         counts: [0usize; 7],
         total: 0,
     }
 }
 
 // One addition more: into its level's run, after those that are not after it.
-fn add_one(a: Arranged, level: usize, f: FileRecord) -> Arranged
-    requires { ⌜ (a ≡ arrangedOf (levelsIn a)) × (level < 7) × (a .total < 64) ⌝ }
-    ensures { λ r. ⌜ r ≡ arrangedOf (addTo level f (levelsIn a)) ⌝ }
+fn add_one(a: Arranged, keys: [Key; 64], level: usize, p: usize) -> Arranged
+    requires { ⌜ (a ≡ arrangedOf (levelsIn a)) × (level < 7) × (a .total < 64) × (p < 64) × (isBelow 64 (a .order) ≡ true) ⌝ }
+    ensures { λ r. ⌜ r ≡ arrangedOf (addTo (keyBefore keys) level p (levelsIn a)) ⌝ }
 {
     let mut counts = a.counts;
     let from = levels::start_of(counts, level);
     let count = counts[level];
-    let files = a.files;
-    let key = f.smallest;
-    let at = place(files, from, from + count, key);
-    let made = open_at(files, at, a.total, f);
+    let order = a.order;
+    let key = keys[p];
+    let at = place(keys, order, from, from + count, key);
+    let made = open_at(order, at, a.total, p);
     counts[level] = count + 1;
     Arranged {
-        files: made,
+        order: made,
         counts: counts,
         total: a.total + 1,
     }
 }
 
-// Additions, each with its level, put level after level, by smallest key, equal ones in their order.
-pub fn arrange(files: [FileRecord; 64], levels: &[usize]) -> Arranged
+// The places of additions, of which each has its level and its smallest key, put level after level, by smallest key, equal ones in their order.
+pub fn arrange(keys: [Key; 64], levels: &[usize]) -> Arranged
     requires { ⌜ (length (now levels) ≤ 64) × (areLevels (now levels) ≡ true) ⌝ }
-    ensures { λ r. ⌜ r ≡ arrangedOf (sortedLevels (now (levels .entry)) (take (length (now (levels .entry))) files)) ⌝ }
+    ensures { λ r. ⌜ r ≡ arrangedOf (sortedLevels (keyBefore keys) (now (levels .entry)) (upFrom 0 (length (now (levels .entry))))) ⌝ }
 {
     let n = levels.len();
     let mut out = no_additions();
     let mut j: usize = 0;
     while j < n {
-        let f = files[j];
         let level = levels[j];
-        out = add_one(out, level, f);
+        out = add_one(out, keys, level, j);
         j += 1;
     }
     out
@@ -251,34 +274,93 @@ fn goes_before(new: FileRecord, old: FileRecord) -> bool
     keys::is_before(a, b)
 }
 
-// One merge of what stays and what is added, level by level, into blank places; what stays goes first on equal keys.
+// Whether none collide so far, and, where it is to be tested, the last file ends strictly before this one begins.
+fn is_clear(fits: bool, tested: bool, end: Key, f: FileRecord) -> bool
+    ensures { λ r. ⌜ r ≡ clearOf fits tested end f ⌝ }
+{
+    if !fits {
+        return false;
+    }
+    if !tested {
+        return true;
+    }
+    let low = f.smallest;
+    keys::is_before(end, low)
+}
+
+// A level of which nothing has been seen. Files may collide above level 0.
+fn level_begun(fits: bool, level: usize) -> Seen
+    ensures { λ r. ⌜ r ≡ levelBegun fits level ⌝ }
+{
+    Seen {
+        end: keys::blank_key(),
+        fits: fits,
+        deep: 0 < level,
+        follows: false,
+        fresh: false,
+    }
+}
+
+// One file more of a level: an added one is tested with the file before it, one that stays only if that one was added.
+fn seen_after(s: Seen, f: FileRecord, added: bool) -> Seen
+    ensures { λ r. ⌜ r ≡ seenAfter s f added ⌝ }
+{
+    let end = s.end;
+    let high = f.largest;
+    if added {
+        return Seen {
+            end: high,
+            fits: is_clear(s.fits, s.follows, end, f),
+            deep: s.deep,
+            follows: s.deep,
+            fresh: s.deep,
+        };
+    }
+    Seen {
+        end: high,
+        fits: is_clear(s.fits, s.fresh, end, f),
+        deep: s.deep,
+        follows: s.deep,
+        fresh: false,
+    }
+}
+
+// One merge of what stays and what is added, level by level, into blank places; what stays goes first on equal keys. Files that stay and stand next to each other are known not to collide.
 pub fn merge(
     files: [FileRecord; 256],
+    places: [usize; 256],
     counts: [usize; 7],
     news: [FileRecord; 64],
+    order: [usize; 64],
     new_counts: [usize; 7],
 ) -> Merged
-    requires { ⌜ (sum counts + sum «new_counts» ≤ 256) × (sum «new_counts» ≤ 64) ⌝ }
-    ensures { λ r. ⌜ r ≡ mergedOf (merges (parts files counts) (parts news «new_counts»)) ⌝ }
+    requires { ⌜ (sum counts + sum «new_counts» ≤ 256) × (sum «new_counts» ≤ 64) × (isBelow 256 places ≡ true) × (isBelow 64 order ≡ true) × (levelwise inOrder 0 (filesOf (parts (recordsAt files places) counts)) ≡ true) ⌝ }
+    ensures { λ r. ⌜ r ≡ mergedOf (merges (parts (recordsAt files places) counts) (parts (recordsAt news order) «new_counts»)) ⌝ }
 {
     let mut out = records::blanks();
     let mut made = [0usize; 7];
+    let mut seen = level_begun(true, 0);
     let mut i: usize = 0;
     let mut j: usize = 0;
     let mut level: usize = 0;
     while level < Level::COUNT {
         let to = i + counts[level];
         let new_to = j + new_counts[level];
+        seen = level_begun(seen.fits, level);
         while i + j < to + new_to {
             let mut added = j < new_to;
             if added && i < to {
-                added = goes_before(news[j], files[i]);
+                added = goes_before(news[order[j]], files[places[i]]);
             }
             if added {
-                out[i + j] = news[j];
+                let f = news[order[j]];
+                seen = seen_after(seen, f, true);
+                out[i + j] = f;
                 j += 1;
             } else {
-                out[i + j] = files[i];
+                let f = files[places[i]];
+                seen = seen_after(seen, f, false);
+                out[i + j] = f;
                 i += 1;
             }
         }
@@ -288,5 +370,6 @@ pub fn merge(
     Merged {
         files: out,
         counts: made,
+        fits: seen.fits,
     }
 }

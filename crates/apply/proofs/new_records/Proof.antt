@@ -1,10 +1,10 @@
--- `apply::new_records` meets its contract. The loop's invariant: what the additions from i on give, laid down from i on, completes the records and both columns. Assumes nothing.
-use Prim.Native.Nat.{ℕ, _+_, _≤_, _-_}
-use mathlib.Core.Path.{_≡_, refl, sym, ap, _∙_}
+-- `apply::new_records` meets its contract. The loop's invariant: what is kept of the additions from i on, laid down from i on, completes the records. Assumes nothing.
+use Prim.Native.Nat.{_+_, _≤_, _-_}
+use mathlib.Core.Path.{_≡_, sym, ap, _∙_}
 use mathlib.Core.List.{List, map}
 use native.Mathlib.Omega.{arith}
 use borrow.Author.Needs.{needs}
-use lib.ListN.{length, getD, take, set, replicate, length-set}
+use lib.ListN.{length, getD, take, set, length-set}
 use lib.Seq.{slice}
 use Rattle.lemmas.specs.Slices.{put, length-of-map}
 use Rattle.lemmas.specs.Loops.{view-laid, view-all-laid}
@@ -19,17 +19,13 @@ use Rattle.apply.proofs.new_records.Statement.{statement}
 use Rattle.apply.proofs.new_records.Tie as tie
 
 abbrev Inv-loop : tie.InvT-loop
-Inv-loop count additions files₀ levels₀ numbers₀ i₀ files levels numbers i =
+Inv-loop count additions files₀ i₀ files i =
     let kept : Addition → FileRecord = λ a. recordOf (additionOf a .file) in
-    let level : Addition → ℕ = λ a. a .level in
-    let number : Addition → ℕ = λ a. a .number .0 in
-    (i ≤ count) × (length files ≡ 64) × (length levels ≡ 64) × (length numbers ≡ 64)
+    (i ≤ count) × (length files ≡ 64)
     × (put files i (map kept (slice i count additions)) ≡ put (vacant 64) 0 (map kept (take count additions)))
-    × (put levels i (map level (slice i count additions)) ≡ put (replicate 64 0) 0 (map level (take count additions)))
-    × (put numbers i (map number (slice i count additions)) ≡ put (replicate 64 0) 0 (map number (take count additions)))
 
 abbrev μ-loop : tie.MeasureT-loop
-μ-loop count additions files₀ levels₀ numbers₀ i₀ files levels numbers i = count - i
+μ-loop count additions files₀ i₀ files i = count - i
 
 no-records-requires : tie.Need-no-records-requires Inv-loop μ-loop
 no-records-requires c κs = search needs
@@ -40,11 +36,7 @@ loop-holds c =
     let kept : Addition → FileRecord = λ x. recordOf (additionOf x .file) in (
       omega arith,
       search (needs, length-of-map),
-      refl,
-      refl,
       ap (λ (z : List FileRecord). put z 0 (map kept (take (a .count) (a .t1)))) (c .no-records .ensures),
-      refl,
-      refl,
     )
 
 mul-a : tie.Need-mul-a Inv-loop μ-loop
@@ -62,18 +54,6 @@ mul-files c = omega arith
 array-set-from-files : tie.Need-array-set-from-files Inv-loop μ-loop
 array-set-from-files c = omega arith
 
-mul-levels : tie.Need-mul-levels Inv-loop μ-loop
-mul-levels c = omega arith
-
-array-write-levels : tie.Need-array-write-levels Inv-loop μ-loop
-array-write-levels c = omega arith
-
-mul-numbers : tie.Need-mul-numbers Inv-loop μ-loop
-mul-numbers c = omega arith
-
-array-write-numbers : tie.Need-array-write-numbers Inv-loop μ-loop
-array-write-numbers c = omega arith
-
 add-i : tie.Need-add-i Inv-loop μ-loop
 add-i c = omega arith
 
@@ -87,20 +67,14 @@ loop-again c =
     let a = l .before .before .args in
     let i = l .loop .i in
     let kept : Addition → FileRecord = λ x. recordOf (additionOf x .file) in
-    let level : Addition → ℕ = λ x. x .level in
-    let number : Addition → ℕ = λ x. x .number .0 in
     let it = getD (a .t1) i pastAddition in
     let q : length (a .t1) ≡ 64 = search (needs, length-of-map) in
     let made : set (l .loop .files) i (c .«record» .result) ≡ set (l .loop .files) i (kept it) = ap (set (l .loop .files) i) (c .«record» .ensures) in (
       omega arith,
       length-set (l .loop .files) i (c .«record» .result) ∙ l .loop .inv .1,
-      length-set (l .loop .levels) i (level it) ∙ l .loop .inv .2,
-      length-set (l .loop .numbers) i (number it) ∙ l .loop .inv .3,
       ap (λ (z : List FileRecord). put z (i + 1) (map kept (slice (i + 1) (a .count) (a .t1)))) made
           ∙ view-laid kept i (a .count) (a .t1) (l .loop .files) pastAddition (omega arith) (omega arith) (omega arith)
-          ∙ l .loop .inv .4,
-      view-laid level i (a .count) (a .t1) (l .loop .levels) pastAddition (omega arith) (omega arith) (omega arith) ∙ l .loop .inv .5,
-      view-laid number i (a .count) (a .t1) (l .loop .numbers) pastAddition (omega arith) (omega arith) (omega arith) ∙ l .loop .inv .6,
+          ∙ l .loop .inv .2,
     )
 
 returns : tie.Need-returns Inv-loop μ-loop
@@ -108,11 +82,7 @@ unfolding newsOf full
 returns c =
     let l = c .before in
     let a = l .before .before .args in
-    let i = l .loop .i in
-    let files = sym (view-all-laid (λ (x : Addition). recordOf (additionOf x .file)) i (a .count) (a .t1) (l .loop .files) (omega arith) (omega arith)) ∙ l .loop .inv .4 in
-    let levels = sym (view-all-laid (λ (x : Addition). x .level) i (a .count) (a .t1) (l .loop .levels) (omega arith) (omega arith)) ∙ l .loop .inv .5 in
-    let numbers = sym (view-all-laid (λ (x : Addition). x .number .0) i (a .count) (a .t1) (l .loop .numbers) (omega arith) (omega arith)) ∙ l .loop .inv .6 in
-    λ j. record { files = files j; levels = levels j; numbers = numbers j }
+    sym (view-all-laid (λ (x : Addition). recordOf (additionOf x .file)) (l .loop .i) (a .count) (a .t1) (l .loop .files) (omega arith) (omega arith)) ∙ l .loop .inv .2
 
 pub new-records-spec : {M : Type 1} → statement M
 new-records-spec =
@@ -127,10 +97,6 @@ new-records-spec =
     record-requires
     mul-files
     array-set-from-files
-    mul-levels
-    array-write-levels
-    mul-numbers
-    array-write-numbers
     add-i
     loop-less
     loop-again

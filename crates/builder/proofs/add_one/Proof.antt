@@ -3,22 +3,22 @@ use Prim.Native.Nat.{ℕ, _+_, _≤_, _<_}
 use mathlib.Core.Path.{_≡_, sym, ap, _∙_}
 use native.Mathlib.Omega.{arith}
 use borrow.Author.Needs.{needs}
-use lib.ListN.{length, getD, take}
+use lib.ListN.{length, getD, take, replicate}
 use lib.Seq.{slice, length-slice}
 use Rattle.lemmas.specs.Lists.{join, sum}
 use Rattle.lemmas.specs.Loops.{before-first, before-first-le}
-use Rattle.lemmas.specs.Slices.{opened, sum-upto, sum-lengths, length-parts, length-of-map}
-use Rattle.model.specs.File.{full, bySmallest}
-use Rattle.records.specs.Record.{fileOf, vacant}
+use Rattle.lemmas.specs.Slices.{opened, sum-upto, sum-lengths, length-parts}
+use Rattle.model.specs.File.{full}
 use Rattle.builder.specs.declared.Arranged.{Arranged}
-use Rattle.builder.specs.Builder.{recordBefore, arrangedOf}
+use Rattle.builder.specs.Builder.{keyAt, keyBefore, arrangedOf}
 use Rattle.builder.specs.Arrange.{levelsIn, addTo}
 use Rattle.builder.specs.ArrangeLaws as law
 use Rattle.builder.proofs.add_one.Statement.{statement}
 use Rattle.builder.proofs.add_one.Tie as tie
 
-long-files : (c : tie.Start) → length (c .args .a .files) ≡ 64
-long-files c = search (needs, length-of-map)
+-- the array has its room
+long : (c : tie.Start) → length (c .args .a .order) ≡ 64
+long c = search needs
 
 -- the counts are together the number of additions
 whole : (c : tie.Start) → sum (c .args .a .counts) ≡ c .args .a .total
@@ -42,22 +42,28 @@ mul-count c = search needs
 array-read-count : tie.Need-array-read-count
 array-read-count c = search needs
 
+mul-key : tie.Need-mul-key
+mul-key c = omega arith
+
+array-copy-out-key : tie.Need-array-copy-out-key
+array-copy-out-key c = omega arith
+
 add-place : tie.Need-add-place
 add-place c = omega (arith, within (c .before .before))
 
 place-requires : tie.Need-place-requires
-place-requires c κs = (omega arith, omega (arith, within (c .before .before)))
+place-requires c κs = (omega arith, omega (arith, within (c .before .before)), c .before .before .before .before .pre .4)
 
 open-at-requires : tie.Need-open-at-requires
-unfolding recordBefore bySmallest fileOf
+unfolding keyBefore keyAt
 open-at-requires c κs =
     let a = c .before .before .before .before .before .args in
     let from = c .before .before .before .start-of .result in
     let end = from + getD (a .a .counts) (a .level) 0 in
     let fits = within (c .before .before .before) in
-    let long = long-files (c .before .before .before .before .before) in
-    let most = before-first-le (recordBefore (a .f)) (slice from end (a .a .files)) in
-    (omega (arith, c .place .ensures, most, length-slice from end (a .a .files) (omega arith)), omega arith)
+    let room = long (c .before .before .before .before .before) in
+    let most = before-first-le (keyBefore (a .t2) (a .p)) (slice from end (a .a .order)) in
+    (omega (arith, c .place .ensures, most, length-slice from end (a .a .order) (omega arith)), omega arith)
 
 add-counts : tie.Need-add-counts
 add-counts c = omega (arith, within (c .before .before .before .before))
@@ -68,32 +74,33 @@ mul-counts c = search needs
 array-write-counts : tie.Need-array-write-counts
 array-write-counts c = search needs
 
-add-t12 : tie.Need-add-t12
-add-t12 c = search needs
+add-t17 : tie.Need-add-t17
+add-t17 c = search needs
 
 returns : tie.Need-returns
-unfolding arrangedOf full recordBefore bySmallest fileOf levelsIn
+unfolding arrangedOf full keyBefore keyAt levelsIn
 returns c =
     let s = c .before .before .before .before .before .before .before in
     let a = s .args .a in
     let k = s .args .level in
-    let f = s .args .f in
+    let p = s .args .p in
+    let lt = keyBefore (s .args .t2) in
     let ls = levelsIn a in
     let h = s .pre .0 in
-    let hf = ap (λ (x : Arranged). x .files) h in
+    let hf = ap (λ (x : Arranged). x .order) h in
     let hc = ap (λ (x : Arranged). x .counts) h in
     let hn = ap (λ (x : Arranged). x .total) h in
     let seven : length (a .counts) ≡ 7 = search needs in
-    let below : k < length ls = omega (arith, length-parts (a .files) (a .counts)) in
-    let at : ℕ → ℕ = λ n. n + before-first (recordBefore f) (slice n (n + getD (a .counts) k 0) (a .files)) in
+    let below : k < length ls = omega (arith, length-parts (a .order) (a .counts)) in
+    let at : ℕ → ℕ = λ n. n + before-first (lt p) (slice n (n + getD (a .counts) k 0) (a .order)) in
     let found : c .before .before .place .result ≡ at (sum (take k (a .counts))) = rw (← c .before .before .before .before .before .start-of .ensures) (c .before .before .place .ensures) in
-    let files =
+    let order =
     c .before .open-at .ensures
-    ∙ ap (λ (p : ℕ). opened (a .files) p (a .total) f) found
-    ∙ law.add-files (vacant 64) (a .files) (a .counts) (a .total) ls hf hc hn k f below in
-    let counts = law.add-counts (vacant 64) (a .files) (a .counts) (a .total) ls hf hc hn k f below in
-    let total : a .total + 1 ≡ length (join (addTo k f ls)) = omega (arith, hn, law.add-total ls k f below) in
-    λ i. record { files = files i; counts = counts i; total = total i }
+    ∙ ap (λ (n : ℕ). opened (a .order) n (a .total) p) found
+    ∙ law.add-front lt (replicate 64 0) (a .order) (a .counts) (a .total) ls hf hc hn k p below in
+    let counts = law.add-counts lt (replicate 64 0) (a .order) (a .counts) (a .total) ls hf hc hn k p below in
+    let total : a .total + 1 ≡ length (join (addTo lt k p ls)) = omega (arith, hn, law.add-total lt ls k p below) in
+    λ i. record { order = order i; counts = counts i; total = total i }
 
 pub add-one-spec : {M : Type 1} → statement M
 add-one-spec =
@@ -102,11 +109,13 @@ add-one-spec =
     start-of-requires
     mul-count
     array-read-count
+    mul-key
+    array-copy-out-key
     add-place
     place-requires
     open-at-requires
     add-counts
     mul-counts
     array-write-counts
-    add-t12
+    add-t17
     returns)

@@ -1,62 +1,117 @@
--- `builder::merge` meets its contract. In a level: what is laid down, with the merge of what is left of both runs after it, is the whole merge; over the levels alike. Assumes nothing.
+-- `builder::merge` meets its contract. In a level: what is laid down, with the merge of what is left of both runs after it, is the whole merge, and what has been found of collisions,
+-- with what is left to be asked, is whether the level has any; over the levels alike. Assumes nothing.
 use Prim.Native.Nat.{ℕ, _+_, _-_, _≤_, _<_}
 use mathlib.Core.Path.{_≡_, refl, sym, ap, _∙_}
-use mathlib.Core.Bool.{true, false}
+use mathlib.Core.Bool.{Bool, true, false, _&&_}
 use mathlib.Core.List.{List, [], _∷_, map}
 use mathlib.Core.Logic.{⊎-elim}
 use native.Mathlib.Omega.{arith}
 use borrow.Author.Needs.{needs}
 use borrow.Author.Tests.{ltb-true, ltb-false}
-use lib.ListN.{length, getD, set, drop, length-set, length-map}
+use lib.ListN.{length, getD, drop, length-set, length-map}
 use lib.Seq.{slice, length-slice}
 use Rattle.lemmas.specs.Order.{clash}
 use Rattle.lemmas.specs.Lists.{join, sum}
-use Rattle.lemmas.specs.Slices.{put, put-cons, put-nil, put-append, put-whole, parts, length-parts, sum-turn}
+use Rattle.lemmas.specs.ListLaws.{and-left, and-right, and-true}
+use Rattle.lemmas.specs.Slices.{put, put-cons, put-nil, put-append, put-whole, parts, parts-turn, length-parts, sum-turn}
 use Rattle.lemmas.specs.Merge as lists
-use Rattle.lemmas.specs.Merge.{merge-lays-first, merge-lays-second, merge-lays-none}
-use Rattle.model.specs.File.{full}
+use Rattle.model.specs.File.{full, inOrder, noCollision, levelwise}
 use Rattle.records.specs.declared.FileRecord.{FileRecord}
-use Rattle.records.specs.Record.{vacant}
+use Rattle.records.specs.Record.{fileOf, vacant}
 use Rattle.records.specs.RecordLaws.{past}
-use Rattle.builder.specs.Builder.{recordBefore, merges, mergedOf}
-use Rattle.builder.specs.MergeLaws.{merges-turn, merges-over, merges-levels}
+use Rattle.builder.specs.Builder.{recordBefore, recordsAt, filesOf, merges, mergedOf}
+use Rattle.builder.specs.PlaceLaws.{below-at, records-length, record-at}
+use Rattle.builder.specs.MergeLaws.{takes-none, merges-turn, merges-over, merges-levels}
+use Rattle.builder.specs.NeighbourLaws.{Sees, rest, fits-begun, sees-begun, rest-begun, rest-ended, levelwise-turn, levelwise-found}
+use Rattle.builder.proofs.Turning.{turn-new, turn-old}
 use Rattle.builder.proofs.merge.Statement.{statement}
 use Rattle.builder.proofs.merge.Tie as tie
 
 abbrev Inv-loop2 : tie.InvT-loop2
-Inv-loop2 files counts news new-counts out₀ made i₀ j₀ level to new-to out i j =
-    (i ≤ to) × (j ≤ new-to) × (to + new-to ≤ 256) × (new-to ≤ 64) × (length out ≡ 256)
-    × (put out (i + j) (lists.merge recordBefore (slice i to files) (slice j new-to news)) ≡ put out₀ (i₀ + j₀) (lists.merge recordBefore (slice i₀ to files) (slice j₀ new-to news)))
+Inv-loop2 files places counts news order new-counts out₀ made seen₀ i₀ j₀ level to new-to out seen i j =
+    let old = recordsAt files places in
+    let new = recordsAt news order in
+    let left = lists.merge recordBefore (slice i to old) (slice j new-to new) in
+    let whole = lists.merge recordBefore (slice i₀ to old) (slice j₀ new-to new) in
+    (i₀ ≤ i) × (i ≤ to) × (j ≤ new-to) × (to + new-to ≤ 256) × (new-to ≤ 64) × (length out ≡ 256)
+    × (put out (i + j) left ≡ put out₀ (i₀ + j₀) whole)
+    × (inOrder level (map fileOf (slice i₀ to old)) ≡ true)
+    × Sees level seen (i < to) (getD old i past)
+    × ((seen .fits && rest level seen left) ≡ (seen₀ .fits && noCollision level (map fileOf whole)))
 
 abbrev μ-loop2 : tie.MeasureT-loop2
-μ-loop2 files counts news new-counts out₀ made i₀ j₀ level to new-to out i j = (to + new-to) - (i + j)
+μ-loop2 files places counts news order new-counts out₀ made seen₀ i₀ j₀ level to new-to out seen i j = (to + new-to) - (i + j)
 
 abbrev Inv-loop : tie.InvT-loop
-Inv-loop files counts news new-counts out₀ made₀ i₀ j₀ level₀ out made i j level =
-    let left = merges (parts (drop i files) (drop level counts)) (parts (drop j news) (drop level new-counts)) in
-    let whole = merges (parts files counts) (parts news new-counts) in
+Inv-loop files places counts news order new-counts out₀ made₀ seen₀ i₀ j₀ level₀ out made seen i j level =
+    let old = recordsAt files places in
+    let new = recordsAt news order in
+    let left = merges (parts (drop i old) (drop level counts)) (parts (drop j new) (drop level new-counts)) in
+    let whole = merges (parts old counts) (parts new new-counts) in
     (level ≤ 7) × (i + sum (drop level counts) + (j + sum (drop level new-counts)) ≤ 256) × (j + sum (drop level new-counts) ≤ 64)
     × (length out ≡ 256) × (length made ≡ 7)
     × (put out (i + j) (join left) ≡ put (vacant 256) 0 (join whole))
     × (put made level (map length left) ≡ map length whole)
+    × (levelwise inOrder level (filesOf (parts (drop i old) (drop level counts))) ≡ true)
+    × ((seen .fits && levelwise noCollision level (filesOf left)) ≡ levelwise noCollision 0 (filesOf whole))
 
 abbrev μ-loop : tie.MeasureT-loop
-μ-loop files counts news new-counts out₀ made₀ i₀ j₀ level₀ out made i j level = 7 - level
+μ-loop files places counts news order new-counts out₀ made₀ seen₀ i₀ j₀ level₀ out made seen i j level = 7 - level
+
+-- the start of the function
+abbrev Start : Type 0
+Start = tie.Start Inv-loop2 μ-loop2 Inv-loop μ-loop
+
+-- the records that stay
+abbrev olds : Start → List FileRecord
+olds c = recordsAt (c .args .t1) (c .args .t2)
+
+-- those that are added
+abbrev adds : Start → List FileRecord
+adds c = recordsAt (c .args .t4) (c .args .t5)
+
+-- there are as many places as a version has
+olds-length : (c : Start) → length (olds c) ≡ 256
+olds-length c = records-length (c .args .t1) (c .args .t2) ∙ search needs
+
+-- and as many as an edit has
+adds-length : (c : Start) → length (adds c) ≡ 64
+adds-length c = records-length (c .args .t4) (c .args .t5) ∙ search needs
+
+-- a place among those that stay: what stands there, within the base
+old-at : (c : Start) (i : ℕ) → i < 256 → (getD (c .args .t2) i 0 < 256) × (getD (olds c) i past ≡ getD (c .args .t1) (getD (c .args .t2) i 0) past)
+old-at c i h =
+    let q : length (c .args .t2) ≡ 256 = search needs in
+    (below-at 256 (c .args .t2) i (c .pre .2) (omega arith), record-at (c .args .t1) (c .args .t2) i (omega arith))
+
+-- a place among those that are added
+new-at : (c : Start) (j : ℕ) → j < 64 → (getD (c .args .t5) j 0 < 64) × (getD (adds c) j past ≡ getD (c .args .t4) (getD (c .args .t5) j 0) past)
+new-at c j h =
+    let q : length (c .args .t5) ≡ 64 = search needs in
+    (below-at 64 (c .args .t5) j (c .pre .3) (omega arith), record-at (c .args .t4) (c .args .t5) j (omega arith))
+
+-- the start, from a turn in a level
+abbrev start : tie.In-loop2 Inv-loop2 μ-loop2 Inv-loop μ-loop → Start
+start c = c .before .before .before .before .before .before .before
 
 -- in a level's turn: the next addition is taken, or the next file that stays
 chosen : (c : tie.Joined1-2 Inv-loop2 μ-loop2 Inv-loop μ-loop)
-    → let a = c .before .before .before .before .before .before .args in
-    let o = c .before .before .before .before .loop in
+    → let s = start (c .before) in
+    let o = c .before .before .before .before .before .loop in
     let l = c .before .before .loop2 in
-    let to = o .i + getD (a .t2) (o .level) 0 in
-    let new-to = o .j + getD (a .t4) (o .level) 0 in
-    let first = recordBefore (getD (a .t3) (l .j) past) (getD (a .t1) (l .i) past) in
+    let to = o .i + getD (s .args .t3) (o .level) 0 in
+    let new-to = o .j + getD (s .args .t6) (o .level) 0 in
+    let first = recordBefore (getD (adds s) (l .j) past) (getD (olds s) (l .i) past) in
     (c .if1 .added ≡ true → (l .j < new-to) × (l .i < to → first ≡ true)) × (c .if1 .added ≡ false → (l .i < to) × (l .j < new-to → first ≡ false))
 chosen c =
+    let s = start (c .before) in
+    let l = c .before .before .loop2 in
     ⊎-elim
-    (λ w. (
-      λ t. (omega (arith, ltb-true), λ h. sym (w .4 .ensures) ∙ sym (w .5) ∙ t),
-      λ f. (omega (arith, ltb-true), λ h. sym (w .4 .ensures) ∙ sym (w .5) ∙ f),
+    (λ w.
+    let a = old-at s (l .i) (omega (arith, ltb-true)) .1 in
+    let b = new-at s (l .j) (omega (arith, ltb-true)) .1 in (
+      λ t. (omega (arith, ltb-true), λ h. rw (a, b) (sym (w .4 .ensures) ∙ sym (w .5) ∙ t)),
+      λ f. (omega (arith, ltb-true), λ h. rw (a, b) (sym (w .4 .ensures) ∙ sym (w .5) ∙ f)),
     ))
     (λ w.
     ⊎-elim
@@ -65,21 +120,34 @@ chosen c =
     (w .0 .came))
     (c .if1 .came)
 
+-- an addition is taken: there is one
+new-next : (c : tie.Then3 Inv-loop2 μ-loop2 Inv-loop μ-loop) → c .before .before .before .loop2 .j < 64
+new-next c = omega (arith, chosen (c .before) .0 (c .if3 .taken) .0)
+
+-- a file that stays is taken: there is one
+old-next : (c : tie.Else3 Inv-loop2 μ-loop2 Inv-loop μ-loop) → c .before .before .before .loop2 .i < 256
+old-next c = omega (arith, chosen (c .before) .1 (c .if3 .left) .0)
+
 blanks-requires : tie.Need-blanks-requires Inv-loop2 μ-loop2 Inv-loop μ-loop
 blanks-requires c κs = search needs
 
+level-begun-requires : tie.Need-level-begun-requires Inv-loop2 μ-loop2 Inv-loop μ-loop
+level-begun-requires c κs = search needs
+
 loop-holds : tie.Need-loop-holds Inv-loop2 μ-loop2 Inv-loop μ-loop
 loop-holds c =
-    let a = c .before .args in
-    let whole = merges (parts (a .t1) (a .t2)) (parts (a .t3) (a .t4)) in
-    let seven : length (a .t2) ≡ 7 = search needs in (
+    let s = c .before .before in
+    let whole = merges (parts (olds s) (s .args .t3)) (parts (adds s) (s .args .t6)) in
+    let seven : length (s .args .t3) ≡ 7 = search needs in (
       omega arith,
       omega arith,
       omega arith,
       search needs,
       refl,
-      ap (λ (d : List FileRecord). put d 0 (join whole)) (c .blanks .ensures),
-      put-whole (0 ∷ 0 ∷ 0 ∷ 0 ∷ 0 ∷ 0 ∷ 0 ∷ []) (map length whole) (length-map whole length ∙ merges-levels (parts (a .t1) (a .t2)) (parts (a .t3) (a .t4)) ∙ length-parts (a .t1) (a .t2) ∙ seven),
+      ap (λ (d : List FileRecord). put d 0 (join whole)) (c .before .blanks .ensures),
+      put-whole (0 ∷ 0 ∷ 0 ∷ 0 ∷ 0 ∷ 0 ∷ 0 ∷ []) (map length whole) (length-map whole length ∙ merges-levels (parts (olds s) (s .args .t3)) (parts (adds s) (s .args .t6)) ∙ length-parts (olds s) (s .args .t3) ∙ seven),
+      s .pre .4,
+      ap (λ (b : Bool). b && levelwise noCollision 0 (filesOf whole)) (fits-begun (c .level-begun .result) true 0 (c .level-begun .ensures)),
     )
 
 mul-to : tie.Need-mul-to Inv-loop2 μ-loop2 Inv-loop μ-loop
@@ -90,8 +158,9 @@ array-read-to c = omega arith
 
 add-to : tie.Need-add-to Inv-loop2 μ-loop2 Inv-loop μ-loop
 add-to c =
-    let t = sum-turn (c .before .before .before .args .t2) (c .before .loop .level) (omega arith) in
-    let u = sum-turn (c .before .before .before .args .t4) (c .before .loop .level) (omega arith) in
+    let s = c .before .before .before .before in
+    let t = sum-turn (s .args .t3) (c .before .loop .level) (omega arith) in
+    let u = sum-turn (s .args .t6) (c .before .loop .level) (omega arith) in
     omega arith
 
 mul-new-to : tie.Need-mul-new-to Inv-loop2 μ-loop2 Inv-loop μ-loop
@@ -102,15 +171,36 @@ array-read-new-to c = omega arith
 
 add-new-to : tie.Need-add-new-to Inv-loop2 μ-loop2 Inv-loop μ-loop
 add-new-to c =
-    let t = sum-turn (c .before .before .before .args .t2) (c .before .loop .level) (omega arith) in
-    let u = sum-turn (c .before .before .before .args .t4) (c .before .loop .level) (omega arith) in
+    let s = c .before .before .before .before in
+    let t = sum-turn (s .args .t3) (c .before .loop .level) (omega arith) in
+    let u = sum-turn (s .args .t6) (c .before .loop .level) (omega arith) in
     omega arith
+
+level-begun-requires-2 : tie.Need-level-begun-requires-2 Inv-loop2 μ-loop2 Inv-loop μ-loop
+level-begun-requires-2 c κs = search needs
 
 loop2-holds : tie.Need-loop2-holds Inv-loop2 μ-loop2 Inv-loop μ-loop
 loop2-holds c =
-    let t = sum-turn (c .before .before .before .args .t2) (c .before .loop .level) (omega arith) in
-    let u = sum-turn (c .before .before .before .args .t4) (c .before .loop .level) (omega arith) in
-    (omega arith, omega arith, omega arith, omega arith, c .before .loop .inv .3, refl)
+    let o = c .before .before .loop in
+    let s = c .before .before .before .before .before in
+    let n = getD (s .args .t3) (o .level) 0 in
+    let m = getD (s .args .t6) (o .level) 0 in
+    let t = sum-turn (s .args .t3) (o .level) (omega arith) in
+    let u = sum-turn (s .args .t6) (o .level) (omega arith) in
+    let this = slice (o .i) (o .i + n) (olds s) in
+    let later = parts (drop (o .i + n) (olds s)) (drop (o .level + 1) (s .args .t3)) in
+    let ordered = sym (levelwise-turn inOrder (o .level) this later) ∙ ap (λ (z : List (List FileRecord)). levelwise inOrder (o .level) (filesOf z)) (sym (parts-turn (olds s) (s .args .t3) (o .level) (o .i) (omega arith))) ∙ o .inv .7 in (
+      omega arith,
+      omega arith,
+      omega arith,
+      omega arith,
+      omega arith,
+      o .inv .3,
+      refl,
+      and-left (inOrder (o .level) (map fileOf this)) (levelwise inOrder (o .level + 1) (filesOf later)) ordered,
+      sees-begun (c .level-begun2 .result) (o .seen .fits) (o .level) (c .level-begun2 .ensures) (o .i < o .i + n) (getD (olds s) (o .i) past),
+      rest-begun (c .level-begun2 .result) (o .seen .fits) (o .level) (c .level-begun2 .ensures) (lists.merge recordBefore this (slice (o .j) (o .j + m) (adds s))),
+    )
 
 add-loop2 : tie.Need-add-loop2 Inv-loop2 μ-loop2 Inv-loop μ-loop
 add-loop2 c = omega arith
@@ -121,119 +211,172 @@ add-loop2-2 c = omega arith
 mul-goes-before : tie.Need-mul-goes-before Inv-loop2 μ-loop2 Inv-loop μ-loop
 mul-goes-before c = omega (arith, ltb-true)
 
-array-copy-out-goes-before : tie.Need-array-copy-out-goes-before Inv-loop2 μ-loop2 Inv-loop μ-loop
-array-copy-out-goes-before c = omega (arith, ltb-true)
+array-read-goes-before : tie.Need-array-read-goes-before Inv-loop2 μ-loop2 Inv-loop μ-loop
+array-read-goes-before c = omega (arith, ltb-true)
 
 mul-goes-before-2 : tie.Need-mul-goes-before-2 Inv-loop2 μ-loop2 Inv-loop μ-loop
-mul-goes-before-2 c = omega (arith, ltb-true)
+mul-goes-before-2 c = omega (arith, new-at (start (c .before .before)) (c .before .before .before .loop2 .j) (omega (arith, ltb-true)) .0)
 
-array-copy-out-goes-before-2 :
-    tie.Need-array-copy-out-goes-before-2 Inv-loop2 μ-loop2 Inv-loop μ-loop
-array-copy-out-goes-before-2 c = omega (arith, ltb-true)
+array-copy-out-goes-before : tie.Need-array-copy-out-goes-before Inv-loop2 μ-loop2 Inv-loop μ-loop
+array-copy-out-goes-before c = new-at (start (c .before .before)) (c .before .before .before .loop2 .j) (omega (arith, ltb-true)) .0
+
+mul-goes-before-3 : tie.Need-mul-goes-before-3 Inv-loop2 μ-loop2 Inv-loop μ-loop
+mul-goes-before-3 c = omega (arith, ltb-true)
+
+array-read-goes-before-2 : tie.Need-array-read-goes-before-2 Inv-loop2 μ-loop2 Inv-loop μ-loop
+array-read-goes-before-2 c = omega (arith, ltb-true)
+
+mul-goes-before-4 : tie.Need-mul-goes-before-4 Inv-loop2 μ-loop2 Inv-loop μ-loop
+mul-goes-before-4 c = omega (arith, old-at (start (c .before .before .before)) (c .before .before .before .before .loop2 .i) (omega (arith, ltb-true)) .0)
+
+array-copy-out-goes-before-2 : tie.Need-array-copy-out-goes-before-2 Inv-loop2 μ-loop2 Inv-loop μ-loop
+array-copy-out-goes-before-2 c = old-at (start (c .before .before .before)) (c .before .before .before .before .loop2 .i) (omega (arith, ltb-true)) .0
 
 goes-before-requires : tie.Need-goes-before-requires Inv-loop2 μ-loop2 Inv-loop μ-loop
 goes-before-requires c κs = search needs
 
-mul-out : tie.Need-mul-out Inv-loop2 μ-loop2 Inv-loop μ-loop
-mul-out c = omega (arith, chosen (c .before) .0 (c .if3 .taken) .0)
+mul-f : tie.Need-mul-f Inv-loop2 μ-loop2 Inv-loop μ-loop
+mul-f c = omega (arith, new-next c)
 
-array-copy-out-out : tie.Need-array-copy-out-out Inv-loop2 μ-loop2 Inv-loop μ-loop
-array-copy-out-out c = omega (arith, chosen (c .before) .0 (c .if3 .taken) .0)
+array-read-f : tie.Need-array-read-f Inv-loop2 μ-loop2 Inv-loop μ-loop
+array-read-f c = new-next c
+
+mul-f-2 : tie.Need-mul-f-2 Inv-loop2 μ-loop2 Inv-loop μ-loop
+mul-f-2 c = omega (arith, new-at (start (c .before .before)) (c .before .before .before .loop2 .j) (new-next c) .0)
+
+array-copy-out-f : tie.Need-array-copy-out-f Inv-loop2 μ-loop2 Inv-loop μ-loop
+array-copy-out-f c = new-at (start (c .before .before)) (c .before .before .before .loop2 .j) (new-next c) .0
+
+seen-after-requires : tie.Need-seen-after-requires Inv-loop2 μ-loop2 Inv-loop μ-loop
+seen-after-requires c κs = search needs
 
 add-out : tie.Need-add-out Inv-loop2 μ-loop2 Inv-loop μ-loop
-add-out c = omega (arith, chosen (c .before .before) .0 (c .before .if3 .taken) .0)
+add-out c = omega (arith, chosen (c .before .before .before) .0 (c .before .before .if3 .taken) .0)
 
-mul-out-2 : tie.Need-mul-out-2 Inv-loop2 μ-loop2 Inv-loop μ-loop
-mul-out-2 c = omega (arith, chosen (c .before .before) .0 (c .before .if3 .taken) .0)
+mul-out : tie.Need-mul-out Inv-loop2 μ-loop2 Inv-loop μ-loop
+mul-out c = omega (arith, chosen (c .before .before .before) .0 (c .before .before .if3 .taken) .0)
 
 array-set-from-out : tie.Need-array-set-from-out Inv-loop2 μ-loop2 Inv-loop μ-loop
-array-set-from-out c = omega (arith, chosen (c .before .before) .0 (c .before .if3 .taken) .0)
+array-set-from-out c = omega (arith, chosen (c .before .before .before) .0 (c .before .before .if3 .taken) .0)
 
 add-j : tie.Need-add-j Inv-loop2 μ-loop2 Inv-loop μ-loop
-add-j c = omega (arith, chosen (c .before .before) .0 (c .before .if3 .taken) .0)
+add-j c = omega (arith, chosen (c .before .before .before) .0 (c .before .before .if3 .taken) .0)
 
 loop2-less : tie.Need-loop2-less Inv-loop2 μ-loop2 Inv-loop μ-loop
-loop2-less c = omega (arith, chosen (c .before .before) .0 (c .before .if3 .taken) .0)
+loop2-less c = omega (arith, chosen (c .before .before .before) .0 (c .before .before .if3 .taken) .0)
 
 loop2-again : tie.Need-loop2-again Inv-loop2 μ-loop2 Inv-loop μ-loop
 loop2-again c =
-    let a = c .before .before .before .before .before .before .before .before .args in
-    let o = c .before .before .before .before .before .before .loop in
-    let l = c .before .before .before .before .loop2 in
-    let to = o .i + getD (a .t2) (o .level) 0 in
-    let new-to = o .j + getD (a .t4) (o .level) 0 in
-    let new = getD (a .t3) (l .j) past in
-    let h = chosen (c .before .before) .0 (c .before .if3 .taken) in
+    let w = c .before .before .before .before in
+    let s = start w in
+    let o = w .before .before .before .before .loop in
+    let l = w .before .loop2 in
+    let to = o .i + getD (s .args .t3) (o .level) 0 in
+    let new-to = o .j + getD (s .args .t6) (o .level) 0 in
+    let h = chosen (c .before .before .before) .0 (c .before .before .if3 .taken) in
+    let a = olds-length s in
+    let b = adds-length s in
+    let x = getD (s .args .t4) (getD (s .args .t5) (l .j) 0) past in
+    let more = lists.merge recordBefore (slice (l .i) to (olds s)) (slice (l .j + 1) new-to (adds s)) in
+    let t = turn-new (o .level) (olds s) (adds s) (l .i) to (l .j) new-to (l .seen) x (l .inv .8) (omega arith) (omega arith) (c .seen-after .result) (c .seen-after .ensures)
+    (new-at s (l .j) (new-next (c .before .before)) .1) (omega arith) (h .0) (h .1) in
     let next : l .i + (l .j + 1) ≡ l .i + l .j + 1 = omega arith in (
+      omega arith,
       omega arith,
       omega (arith, h .0),
       omega arith,
       omega arith,
-      length-set (l .out) (l .i + l .j) new ∙ l .inv .4,
-      rw next
-          (merge-lays-second recordBefore (l .out) (a .t1) (a .t3) (l .i) to (l .j) new-to (l .i + l .j) past (omega arith) (omega arith) (h .0) (omega arith) (omega arith) (h .1) ∙ l .inv .5),
+      length-set (l .out) (l .i + l .j) x ∙ l .inv .5,
+      rw next (put-cons (l .out) (l .i + l .j) x more (omega (arith, h .0))) ∙ ap (put (l .out) (l .i + l .j)) (sym (t .0)) ∙ l .inv .6,
+      l .inv .7,
+      t .1,
+      t .2 ∙ l .inv .9,
     )
 
-mul-out-3 : tie.Need-mul-out-3 Inv-loop2 μ-loop2 Inv-loop μ-loop
-mul-out-3 c = omega (arith, chosen (c .before) .1 (c .if3 .left) .0)
+mul-f-3 : tie.Need-mul-f-3 Inv-loop2 μ-loop2 Inv-loop μ-loop
+mul-f-3 c = omega (arith, old-next c)
 
-array-copy-out-out-2 : tie.Need-array-copy-out-out-2 Inv-loop2 μ-loop2 Inv-loop μ-loop
-array-copy-out-out-2 c = omega (arith, chosen (c .before) .1 (c .if3 .left) .0)
+array-read-f-2 : tie.Need-array-read-f-2 Inv-loop2 μ-loop2 Inv-loop μ-loop
+array-read-f-2 c = old-next c
+
+mul-f-4 : tie.Need-mul-f-4 Inv-loop2 μ-loop2 Inv-loop μ-loop
+mul-f-4 c = omega (arith, old-at (start (c .before .before)) (c .before .before .before .loop2 .i) (old-next c) .0)
+
+array-copy-out-f-2 : tie.Need-array-copy-out-f-2 Inv-loop2 μ-loop2 Inv-loop μ-loop
+array-copy-out-f-2 c = old-at (start (c .before .before)) (c .before .before .before .loop2 .i) (old-next c) .0
+
+seen-after-requires-2 : tie.Need-seen-after-requires-2 Inv-loop2 μ-loop2 Inv-loop μ-loop
+seen-after-requires-2 c κs = search needs
 
 add-out-2 : tie.Need-add-out-2 Inv-loop2 μ-loop2 Inv-loop μ-loop
-add-out-2 c = omega (arith, chosen (c .before .before) .1 (c .before .if3 .left) .0)
+add-out-2 c = omega (arith, chosen (c .before .before .before) .1 (c .before .before .if3 .left) .0)
 
-mul-out-4 : tie.Need-mul-out-4 Inv-loop2 μ-loop2 Inv-loop μ-loop
-mul-out-4 c = omega (arith, chosen (c .before .before) .1 (c .before .if3 .left) .0)
+mul-out-2 : tie.Need-mul-out-2 Inv-loop2 μ-loop2 Inv-loop μ-loop
+mul-out-2 c = omega (arith, chosen (c .before .before .before) .1 (c .before .before .if3 .left) .0)
 
 array-set-from-out-2 : tie.Need-array-set-from-out-2 Inv-loop2 μ-loop2 Inv-loop μ-loop
-array-set-from-out-2 c = omega (arith, chosen (c .before .before) .1 (c .before .if3 .left) .0)
+array-set-from-out-2 c = omega (arith, chosen (c .before .before .before) .1 (c .before .before .if3 .left) .0)
 
 add-i : tie.Need-add-i Inv-loop2 μ-loop2 Inv-loop μ-loop
-add-i c = omega (arith, chosen (c .before .before) .1 (c .before .if3 .left) .0)
+add-i c = omega (arith, chosen (c .before .before .before) .1 (c .before .before .if3 .left) .0)
 
 loop2-less-2 : tie.Need-loop2-less-2 Inv-loop2 μ-loop2 Inv-loop μ-loop
-loop2-less-2 c = omega (arith, chosen (c .before .before) .1 (c .before .if3 .left) .0)
+loop2-less-2 c = omega (arith, chosen (c .before .before .before) .1 (c .before .before .if3 .left) .0)
 
 loop2-again-2 : tie.Need-loop2-again-2 Inv-loop2 μ-loop2 Inv-loop μ-loop
 loop2-again-2 c =
-    let a = c .before .before .before .before .before .before .before .before .args in
-    let o = c .before .before .before .before .before .before .loop in
-    let l = c .before .before .before .before .loop2 in
-    let to = o .i + getD (a .t2) (o .level) 0 in
-    let new-to = o .j + getD (a .t4) (o .level) 0 in
-    let old = getD (a .t1) (l .i) past in
-    let h = chosen (c .before .before) .1 (c .before .if3 .left) in
+    let w = c .before .before .before .before in
+    let s = start w in
+    let o = w .before .before .before .before .loop in
+    let l = w .before .loop2 in
+    let to = o .i + getD (s .args .t3) (o .level) 0 in
+    let new-to = o .j + getD (s .args .t6) (o .level) 0 in
+    let h = chosen (c .before .before .before) .1 (c .before .before .if3 .left) in
+    let a = olds-length s in
+    let b = adds-length s in
+    let x = getD (s .args .t1) (getD (s .args .t2) (l .i) 0) past in
+    let more = lists.merge recordBefore (slice (l .i + 1) to (olds s)) (slice (l .j) new-to (adds s)) in
+    let t = turn-old (o .level) (olds s) (adds s) (l .i) to (l .j) new-to (l .seen) x (l .inv .8) (omega arith) (omega arith) (c .seen-after2 .result) (c .seen-after2 .ensures)
+    (old-at s (l .i) (old-next (c .before .before)) .1) (h .0) (omega arith) (h .1) (o .i) (omega arith) (l .inv .7) in
     let next : l .i + 1 + l .j ≡ l .i + l .j + 1 = omega arith in (
+      omega arith,
       omega (arith, h .0),
       omega arith,
       omega arith,
       omega arith,
-      length-set (l .out) (l .i + l .j) old ∙ l .inv .4,
-      rw next
-          (merge-lays-first recordBefore (l .out) (a .t1) (a .t3) (l .i) to (l .j) new-to (l .i + l .j) past (h .0) (omega arith) (omega arith) (omega arith) (omega arith) (h .1) ∙ l .inv .5),
+      length-set (l .out) (l .i + l .j) x ∙ l .inv .5,
+      rw next (put-cons (l .out) (l .i + l .j) x more (omega (arith, h .0))) ∙ ap (put (l .out) (l .i + l .j)) (sym (t .0)) ∙ l .inv .6,
+      l .inv .7,
+      t .1,
+      t .2 ∙ l .inv .9,
     )
 
--- a level is done: what has been laid down, how far both runs have been used, and how many that were
+-- a level is done: what has been laid down, how far both runs have been used, how many that were, and whether any collide
 level-done : (c : tie.After-loop2 Inv-loop2 μ-loop2 Inv-loop μ-loop)
-    → let a = c .before .before .before .before .before .args in
-    let o = c .before .before .before .loop in
+    → let s = c .before .before .before .before .before .before .before in
+    let o = c .before .before .before .before .loop in
     let l = c .before .loop2 in
-    let n = getD (a .t2) (o .level) 0 in
-    let m = getD (a .t4) (o .level) 0 in
-    let s = lists.merge recordBefore (slice (o .i) (o .i + n) (a .t1)) (slice (o .j) (o .j + m) (a .t3)) in
-    (l .out ≡ put (o .out) (o .i + o .j) s) × (l .i ≡ o .i + n) × (l .j ≡ o .j + m) × (n + m ≡ length s)
+    let n = getD (s .args .t3) (o .level) 0 in
+    let m = getD (s .args .t6) (o .level) 0 in
+    let all = lists.merge recordBefore (slice (o .i) (o .i + n) (olds s)) (slice (o .j) (o .j + m) (adds s)) in
+    (l .out ≡ put (o .out) (o .i + o .j) all) × (l .i ≡ o .i + n) × (l .j ≡ o .j + m) × (n + m ≡ length all) × (l .seen .fits ≡ (o .seen .fits && noCollision (o .level) (map fileOf all)))
 level-done c =
-    let a = c .before .before .before .before .before .args in
-    let o = c .before .before .before .loop in
+    let b = c .before .before in
+    let s = b .before .before .before .before .before in
+    let o = b .before .before .loop in
     let l = c .before .loop2 in
-    let to = o .i + getD (a .t2) (o .level) 0 in
-    let new-to = o .j + getD (a .t4) (o .level) 0 in
-    let none = merge-lays-none recordBefore (l .out) (a .t1) (a .t3) (l .i) to (l .j) new-to (l .i + l .j) past (omega arith) (omega arith) (omega arith) (omega arith) in (
-      sym none ∙ l .inv .5,
+    let to = o .i + getD (s .args .t3) (o .level) 0 in
+    let new-to = o .j + getD (s .args .t6) (o .level) 0 in
+    let all = lists.merge recordBefore (slice (o .i) to (olds s)) (slice (o .j) new-to (adds s)) in
+    let none = takes-none recordBefore (olds s) (adds s) (l .i) to (l .j) new-to past (omega arith) (omega arith) (omega arith) (omega arith) in
+    let p = olds-length s in
+    let q = adds-length s in (
+      sym (put-nil (l .out) (l .i + l .j)) ∙ ap (put (l .out) (l .i + l .j)) (sym none) ∙ l .inv .6,
       omega arith,
       omega arith,
-      omega (arith, lists.merge-length recordBefore (slice (o .i) to (a .t1)) (slice (o .j) new-to (a .t3)), length-slice (o .i) to (a .t1) (omega arith), length-slice (o .j) new-to (a .t3) (omega arith)),
+      omega (arith, lists.merge-length recordBefore (slice (o .i) to (olds s)) (slice (o .j) new-to (adds s)), length-slice (o .i) to (olds s) (omega arith), length-slice (o .j) new-to (adds s) (omega arith)),
+      sym (rest-ended (o .level) (l .seen)) ∙ ap (λ (z : List FileRecord). l .seen .fits && rest (o .level) (l .seen) z) (sym none) ∙ l .inv .9
+          ∙ ap (λ (f : Bool). f && noCollision (o .level) (map fileOf all)) (fits-begun (b .level-begun2 .result) (o .seen .fits) (o .level) (b .level-begun2 .ensures)),
     )
 
 mul-made : tie.Need-mul-made Inv-loop2 μ-loop2 Inv-loop μ-loop
@@ -266,42 +409,50 @@ loop-less c = omega arith
 loop-again : tie.Need-loop-again Inv-loop2 μ-loop2 Inv-loop μ-loop
 unfolding join
 loop-again c =
-    let a = c .before .before .before .before .before .args in
-    let o = c .before .before .before .loop in
+    let s = c .before .before .before .before .before .before .before in
+    let o = c .before .before .before .before .loop in
     let l = c .before .loop2 in
     let d = level-done c in
-    let n = getD (a .t2) (o .level) 0 in
-    let m = getD (a .t4) (o .level) 0 in
-    let s = lists.merge recordBefore (slice (o .i) (o .i + n) (a .t1)) (slice (o .j) (o .j + m) (a .t3)) in
-    let left = merges (parts (drop (o .i + n) (a .t1)) (drop (o .level + 1) (a .t2))) (parts (drop (o .j + m) (a .t3)) (drop (o .level + 1) (a .t4))) in
-    let turn = merges-turn (a .t1) (a .t3) (a .t2) (a .t4) (o .level) (o .i) (o .j) (omega arith) (omega arith) in
-    let t = sum-turn (a .t2) (o .level) (omega arith) in
-    let u = sum-turn (a .t4) (o .level) (omega arith) in
-    let same : merges (parts (drop (l .i) (a .t1)) (drop (o .level + 1) (a .t2))) (parts (drop (l .j) (a .t3)) (drop (o .level + 1) (a .t4))) ≡ left = rw (d .1, d .2) in
-    let to : l .i + l .j ≡ o .i + o .j + length s = omega (arith, d .1, d .2, d .3) in
-    let fits : o .i + o .j + length s ≤ length (o .out) = omega (arith, d .3) in (
+    let n = getD (s .args .t3) (o .level) 0 in
+    let m = getD (s .args .t6) (o .level) 0 in
+    let this = slice (o .i) (o .i + n) (olds s) in
+    let later = parts (drop (o .i + n) (olds s)) (drop (o .level + 1) (s .args .t3)) in
+    let all = lists.merge recordBefore this (slice (o .j) (o .j + m) (adds s)) in
+    let left = merges later (parts (drop (o .j + m) (adds s)) (drop (o .level + 1) (s .args .t6))) in
+    let turn = merges-turn (olds s) (adds s) (s .args .t3) (s .args .t6) (o .level) (o .i) (o .j) (omega arith) (omega arith) in
+    let ordered = sym (levelwise-turn inOrder (o .level) this later) ∙ ap (λ (z : List (List FileRecord)). levelwise inOrder (o .level) (filesOf z)) (sym (parts-turn (olds s) (s .args .t3) (o .level) (o .i) (omega arith))) ∙ o .inv .7 in
+    let t = sum-turn (s .args .t3) (o .level) (omega arith) in
+    let u = sum-turn (s .args .t6) (o .level) (omega arith) in
+    let same : merges (parts (drop (l .i) (olds s)) (drop (o .level + 1) (s .args .t3))) (parts (drop (l .j) (adds s)) (drop (o .level + 1) (s .args .t6))) ≡ left = rw (d .1, d .2) in
+    let to : l .i + l .j ≡ o .i + o .j + length all = omega (arith, d .1, d .2, d .3) in
+    let fits : o .i + o .j + length all ≤ length (o .out) = omega (arith, d .3) in (
       omega arith,
       omega (arith, d .1, d .2),
       omega (arith, d .2),
-      l .inv .4,
+      l .inv .5,
       length-set (o .made) (o .level) (n + m) ∙ o .inv .4,
-      rw (same, d .0, to) (put-append (o .out) (o .i + o .j) s (join left) fits)
+      rw (same, d .0, to) (put-append (o .out) (o .i + o .j) all (join left) fits)
           ∙ ap (λ (z : List (List FileRecord)). put (o .out) (o .i + o .j) (join z)) (sym turn)
           ∙ o .inv .5,
-      rw (same, d .3) (put-cons (o .made) (o .level) (length s) (map length left) (omega arith))
+      rw (same, d .3) (put-cons (o .made) (o .level) (length all) (map length left) (omega arith))
           ∙ ap (λ (z : List (List FileRecord)). put (o .made) (o .level) (map length z)) (sym turn)
           ∙ o .inv .6,
+      rw (d .1) (and-right (inOrder (o .level) (map fileOf this)) (levelwise inOrder (o .level + 1) (filesOf later)) ordered),
+      rw same (levelwise-found noCollision (o .level) all left (o .seen .fits) (l .seen .fits) (d .4))
+          ∙ ap (λ (z : List (List FileRecord)). o .seen .fits && levelwise noCollision (o .level) (filesOf z)) (sym turn)
+          ∙ o .inv .8,
     )
 
 returns : tie.Need-returns Inv-loop2 μ-loop2 Inv-loop μ-loop
-unfolding mergedOf join full
+unfolding mergedOf join full levelwise
 returns c =
-    let a = c .before .before .before .args in
+    let s = c .before .before .before .before in
     let l = c .before .loop in
-    let none = merges-over (a .t1) (a .t3) (a .t2) (a .t4) (l .level) (l .i) (l .j) (omega arith) in
+    let none = merges-over (olds s) (adds s) (s .args .t3) (s .args .t6) (l .level) (l .i) (l .j) (omega arith) in
     let files = sym (put-nil (l .out) (l .i + l .j)) ∙ ap (λ (z : List (List FileRecord)). put (l .out) (l .i + l .j) (join z)) (sym none) ∙ l .inv .5 in
     let counts = sym (put-nil (l .made) (l .level)) ∙ ap (λ (z : List (List FileRecord)). put (l .made) (l .level) (map length z)) (sym none) ∙ l .inv .6 in
-    λ i. record { files = files i; counts = counts i }
+    let clear = sym (and-true (l .seen .fits)) ∙ ap (λ (z : List (List FileRecord)). l .seen .fits && levelwise noCollision (l .level) (filesOf z)) (sym none) ∙ l .inv .8 in
+    λ i. record { files = files i; counts = counts i; fits = clear i }
 
 pub merge-spec : {M : Type 1} → statement M
 merge-spec =
@@ -312,6 +463,7 @@ merge-spec =
     Inv-loop
     μ-loop
     blanks-requires
+    level-begun-requires
     loop-holds
     mul-to
     array-read-to
@@ -319,26 +471,37 @@ merge-spec =
     mul-new-to
     array-read-new-to
     add-new-to
+    level-begun-requires-2
     loop2-holds
     add-loop2
     add-loop2-2
     mul-goes-before
-    array-copy-out-goes-before
+    array-read-goes-before
     mul-goes-before-2
+    array-copy-out-goes-before
+    mul-goes-before-3
+    array-read-goes-before-2
+    mul-goes-before-4
     array-copy-out-goes-before-2
     goes-before-requires
-    mul-out
-    array-copy-out-out
+    mul-f
+    array-read-f
+    mul-f-2
+    array-copy-out-f
+    seen-after-requires
     add-out
-    mul-out-2
+    mul-out
     array-set-from-out
     add-j
     loop2-less
     loop2-again
-    mul-out-3
-    array-copy-out-out-2
+    mul-f-3
+    array-read-f-2
+    mul-f-4
+    array-copy-out-f-2
+    seen-after-requires-2
     add-out-2
-    mul-out-4
+    mul-out-2
     array-set-from-out-2
     add-i
     loop2-less-2

@@ -3,14 +3,12 @@ use mathlib.Core.Path.{refl}
 use Rattle.lemmas.specs.Lists.{join, sort, upFrom}
 use Rattle.lemmas.specs.Slices.{put}
 use Rattle.model.specs.File.{full}
-use Rattle.keys.specs.Key.{keyRecord, padded}
-use Rattle.records.specs.Record.{blank, vacant}
 use Rattle.builder.specs.Builder.{arrangedOf, sortedLevels, atLevel}
 use Rattle.builder.proofs.no_additions.Statement.{statement}
 use Rattle.builder.proofs.no_additions.Tie as tie
 
 returns : tie.Need-returns
-unfolding arrangedOf sortedLevels atLevel sort upFrom join put full vacant blank keyRecord padded
+unfolding arrangedOf sortedLevels atLevel sort upFrom join put full
 returns c = refl
 
 pub no-additions-spec : {M : Type 1} → statement M

@@ -1,0 +1,308 @@
+-- `apply::planned` meets its contract. Assumes nothing.
+use Prim.Native.Nat.{ℕ, _+_, _≤_}
+use mathlib.Core.Path.{_≡_, sym, ap, _∙_}
+use mathlib.Core.Bool.{Bool, not}
+use mathlib.Core.List.{List, [], _∷_, _++_, map}
+use native.Mathlib.Omega.{arith}
+use borrow.Author.Needs.{needs}
+use lib.Dec.{ltb}
+use lib.ListN.{length, take, replicate, length-append, length-map}
+use lib.Seq.{length-take-le}
+use Rattle.lemmas.specs.Lists.{distinct, join, sum, upFrom}
+use Rattle.lemmas.specs.Slices.{put, length-of-map}
+use Rattle.lemmas.specs.Merge.{front-laid}
+use Rattle.model.specs.Answer.{_⇒_}
+use Rattle.model.specs.File.{full}
+use Rattle.keys.specs.declared.Key.{Key}
+use Rattle.edits.specs.Edit.{passed}
+use Rattle.edits.specs.declared.Deletion.{Deletion}
+use Rattle.edits.specs.declared.Addition.{Addition}
+use Rattle.builder.specs.Builder.{staysBy, stayersBy, numberAt, placesOf, isBelow, keptOf, keyBefore, sortedLevels, areLevels, arrangedOf}
+use Rattle.builder.specs.declared.Kept.{Kept}
+use Rattle.builder.specs.PlaceLaws.{below-of}
+use Rattle.apply.specs.Apply.{newColumns, levelsIn, numbersIn, stayPlaces, newPlaces, crowding, planOf}
+use Rattle.apply.specs.ColumnLaws.{gone-levels, gone-numbers, new-levels, new-numbers}
+use Rattle.apply.specs.PlanLaws.{stay-few, stay-below}
+use Rattle.apply.specs.declared.DeletionColumns.{DeletionColumns}
+use Rattle.apply.specs.declared.NewColumns.{NewColumns}
+use Rattle.apply.proofs.planned.Statement.{statement}
+use Rattle.apply.proofs.planned.Tie as tie
+
+-- the deletions
+abbrev gone : tie.Start → List Deletion
+gone s = take (s .args .m) (s .args .deletions)
+
+-- the additions
+abbrev new : tie.Start → List Addition
+new s = take (s .args .k) (s .args .additions)
+
+-- as many deletions as there are to be
+gone-length : (s : tie.Start) → s .args .m ≡ length (gone s)
+gone-length s =
+    let q : length (s .args .deletions) ≡ 256 = search (needs, length-of-map) in
+    sym (length-take-le (s .args .m) (s .args .deletions) (omega arith))
+
+-- as many additions
+new-length : (s : tie.Start) → s .args .k ≡ length (new s)
+new-length s =
+    let q : length (s .args .additions) ≡ 64 = search (needs, length-of-map) in
+    sym (length-take-le (s .args .k) (s .args .additions) (omega arith))
+
+-- the places that stay
+abbrev stay : tie.Start → List (List ℕ)
+stay s = stayPlaces (s .args .column .now) (s .args .counts) (gone s) (new s)
+
+-- the columns of the additions
+abbrev made : tie.After-new-keys → NewColumns
+made c = c .before .before .before .new-columns .result
+
+-- the start, from where they stand
+abbrev start : tie.After-new-keys → tie.Start
+start c = c .before .before .before .before .before .before .before .before
+
+-- there are so many deletions
+gone-room : (c : tie.After-new-keys) → (start c .args .m ≤ length (c .before .before .before .before .before .before .deletion-columns .result .levels)) × (start c .args .m ≤ length (c .before .before .before .before .before .before .deletion-columns .result .numbers))
+gone-room c =
+    let p : length (c .before .before .before .before .before .before .deletion-columns .result .levels) ≡ 256 = search needs in
+    let q : length (c .before .before .before .before .before .before .deletion-columns .result .numbers) ≡ 256 = search needs in
+    let h = start c .pre .3 in
+    (omega arith, omega arith)
+
+-- and so many additions
+new-room : (c : tie.After-new-keys) → (start c .args .k ≤ length (made c .levels)) × (start c .args .k ≤ length (made c .numbers))
+new-room c =
+    let p : length (made c .levels) ≡ 64 = search needs in
+    let q : length (made c .numbers) ≡ 64 = search needs in
+    let h = start c .pre .4 in
+    (omega arith, omega arith)
+
+-- the levels of the additions, as they are lent
+lent-levels : (c : tie.After-new-keys) → take (start c .args .k) (made c .levels) ≡ levelsIn (new (start c))
+lent-levels c =
+    let s = start c in
+    ap (λ (x : NewColumns). take (s .args .k) (x .levels)) (c .before .before .before .new-columns .ensures) ∙ new-levels (new s) (s .args .k) (new-length s)
+
+-- their numbers
+lent-numbers : (c : tie.After-new-keys) → take (start c .args .k) (made c .numbers) ≡ numbersIn (new (start c))
+lent-numbers c =
+    let s = start c in
+    ap (λ (x : NewColumns). take (s .args .k) (x .numbers)) (c .before .before .before .new-columns .ensures) ∙ new-numbers (new s) (s .args .k) (new-length s)
+
+-- what stays
+kept : (c : tie.After-stay) → c .stay .result ≡ keptOf (stay (start (c .before .before .before .before .before)))
+unfolding stayPlaces
+kept c =
+    let n = c .before .before .before .before .before in
+    let s = start n in
+    let m = s .args .m in
+    let k = s .args .k in
+    let d = n .before .before .before .before .before .before in
+    let levels = ap (λ (x : DeletionColumns). take m (x .levels)) (d .deletion-columns .ensures) ∙ gone-levels (gone s) m (gone-length s) in
+    let numbers = ap (λ (x : DeletionColumns). take m (x .numbers)) (d .deletion-columns .ensures) ∙ gone-numbers (gone s) m (gone-length s) in
+    let test : staysBy (take m (d .deletion-columns .result .levels)) (take m (d .deletion-columns .result .numbers)) (take k (made n .levels)) (take k (made n .numbers))
+    ≡ staysBy (map (λ (x : Deletion). x .level) (gone s)) (map (λ (x : Deletion). x .number .0) (gone s)) (levelsIn (new s)) (numbersIn (new s)) = rw (levels, numbers, lent-levels n, lent-numbers n) in
+    c .stay .ensures ∙ ap (λ (t : ℕ → ℕ → Bool). keptOf (stayersBy (numberAt (s .args .column .now)) t 0 (placesOf (s .args .counts)))) test
+
+-- how many stay
+total : (c : tie.After-stay) → c .stay .result .total ≡ length (join (stay (start (c .before .before .before .before .before))))
+unfolding keptOf
+total c = ap (λ (x : Kept). x .total) (kept c)
+
+-- they have room
+few : (c : tie.After-stay) → c .stay .result .total ≤ 256
+few c =
+    let s = start (c .before .before .before .before .before) in
+    let h = s .pre .0 in
+    let n = s .pre .1 in
+    let room : sum (s .args .counts) ≤ 256 = omega arith in
+    omega (arith, total c, stay-few (s .args .column .now) (s .args .counts) (gone s) (new s) room)
+
+-- their places, as they are lent
+lent-places : (c : tie.After-stay) → take (c .stay .result .total) (c .stay .result .places) ≡ join (stay (start (c .before .before .before .before .before)))
+unfolding keptOf
+lent-places c =
+    front-laid (replicate (full .room) 0) (c .stay .result .places) (join (stay (start (c .before .before .before .before .before)))) (c .stay .result .total) (sym (total c)) (ap (λ (x : Kept). x .places) (kept c))
+
+-- the numbers there, as they are lent
+kept-numbers : (c : tie.After-numbers-at) → let k = c .before .before .before .before in let s = start (k .before .before .before .before .before) in
+    take (k .stay .result .total) (c .numbers-at .result) ≡ map (numberAt (s .args .column .now)) (join (stay s))
+kept-numbers c =
+    let k = c .before .before .before .before in
+    let s = start (k .before .before .before .before .before) in
+    let number = numberAt (s .args .column .now) in
+    front-laid (replicate 256 0) (c .numbers-at .result) (map number (join (stay s))) (k .stay .result .total) (length-map (join (stay s)) number ∙ sym (total k))
+    (c .numbers-at .ensures ∙ ap (λ (z : List ℕ). put (replicate 256 0) 0 (map number z)) (lent-places k))
+
+deletion-columns-requires : tie.Need-deletion-columns-requires
+deletion-columns-requires c κs = search needs
+
+new-columns-requires : tie.Need-new-columns-requires
+new-columns-requires c κs = search needs
+
+array-share-prefix-gone-levels : tie.Need-array-share-prefix-gone-levels
+array-share-prefix-gone-levels c = gone-room c .0
+
+slice-aggregate-stay : tie.Need-slice-aggregate-stay
+slice-aggregate-stay c = sym (length-take-le (start (c .before) .args .m) (c .before .before .before .before .before .before .before .deletion-columns .result .levels) (gone-room (c .before) .0))
+
+array-share-prefix-gone-numbers : tie.Need-array-share-prefix-gone-numbers
+array-share-prefix-gone-numbers c = gone-room (c .before) .1
+
+slice-aggregate-stay-2 : tie.Need-slice-aggregate-stay-2
+slice-aggregate-stay-2 c = sym (length-take-le (start (c .before .before) .args .m) (c .before .before .before .before .before .before .before .before .deletion-columns .result .numbers) (gone-room (c .before .before) .1))
+
+array-share-prefix-new-levels : tie.Need-array-share-prefix-new-levels
+array-share-prefix-new-levels c = new-room (c .before .before) .0
+
+slice-aggregate-stay-3 : tie.Need-slice-aggregate-stay-3
+slice-aggregate-stay-3 c = sym (length-take-le (start (c .before .before .before) .args .k) (made (c .before .before .before) .levels) (new-room (c .before .before .before) .0))
+
+array-share-prefix-new-numbers : tie.Need-array-share-prefix-new-numbers
+array-share-prefix-new-numbers c = new-room (c .before .before .before) .1
+
+slice-aggregate-stay-4 : tie.Need-slice-aggregate-stay-4
+slice-aggregate-stay-4 c = sym (length-take-le (start (c .before .before .before .before) .args .k) (made (c .before .before .before .before) .numbers) (new-room (c .before .before .before .before) .1))
+
+stay-requires : tie.Need-stay-requires
+stay-requires c κs = search needs
+
+array-share-prefix-places : tie.Need-array-share-prefix-places
+array-share-prefix-places c =
+    let q : length (c .before .before .stay .result .places) ≡ 256 = search needs in
+    omega (arith, few (c .before .before))
+
+slice-aggregate-numbers-at : tie.Need-slice-aggregate-numbers-at
+slice-aggregate-numbers-at c = sym (ap length (lent-places (c .before .before .before)) ∙ sym (total (c .before .before .before)))
+
+numbers-at-requires : tie.Need-numbers-at-requires
+numbers-at-requires c κs =
+    let k = c .before .before .before in
+    let s = start (k .before .before .before .before .before) in
+    let h = s .pre .0 in
+    let n = s .pre .1 in
+    let room : sum (s .args .counts) ≤ 256 = omega arith in
+    let lent = lent-places k in (
+      omega (arith, ap length lent, total k, few k),
+      ap (isBelow (length (s .args .column .now))) lent ∙ below-of (length (s .args .column .now)) (join (stay s)) (λ p i. omega (arith, stay-below (s .args .column .now) (s .args .counts) (gone s) (new s) room p i)),
+    )
+
+array-share-prefix-kept-numbers : tie.Need-array-share-prefix-kept-numbers
+array-share-prefix-kept-numbers c =
+    let q : length (c .numbers-at .result) ≡ 256 = search needs in
+    omega (arith, few (c .before .before .before .before))
+
+slice-aggregate-has-twice : tie.Need-slice-aggregate-has-twice
+slice-aggregate-has-twice c =
+    let q : length (c .before .numbers-at .result) ≡ 256 = search needs in
+    sym (length-take-le (c .before .before .before .before .before .stay .result .total) (c .before .numbers-at .result) (omega (arith, few (c .before .before .before .before .before))))
+
+array-share-prefix-new-numbers-2 : tie.Need-array-share-prefix-new-numbers-2
+array-share-prefix-new-numbers-2 c = new-room (c .before .before .before .before .before .before .before .before .before .before) .1
+
+slice-aggregate-has-twice-2 : tie.Need-slice-aggregate-has-twice-2
+slice-aggregate-has-twice-2 c = sym (length-take-le (start (c .before .before .before .before .before .before .before .before .before .before .before) .args .k) (made (c .before .before .before .before .before .before .before .before .before .before .before) .numbers) (new-room (c .before .before .before .before .before .before .before .before .before .before .before) .1))
+
+has-twice-requires : tie.Need-has-twice-requires
+has-twice-requires c κs = ap distinct (kept-numbers (c .before .before)) ∙ start (c .before .before .before .before .before .before .before .before .before .before .before) .pre .2
+
+-- 6 is asked of all survivors
+twice : (c : tie.After-has-twice) → let s = start (c .before .before .before .before .before .before .before .before .before .before .before .before) in c .has-twice .result ≡ not (distinct (map (numberAt (s .args .column .now)) (join (stay s)) ++ numbersIn (new s)))
+twice c =
+    let n = c .before .before .before .before .before .before .before .before .before .before .before .before in
+    let s = start n in
+    c .has-twice .ensures
+    ∙ ap (λ (z : List ℕ). not (distinct (z ++ take (s .args .k) (made n .numbers)))) (kept-numbers (c .before .before .before))
+    ∙ ap (λ (z : List ℕ). not (distinct (map (numberAt (s .args .column .now)) (join (stay s)) ++ z))) (lent-numbers n)
+
+add-crowded : tie.Need-add-crowded
+add-crowded c =
+    let h = start (c .before .before .before .before .before .before .before .before .before .before .before .before) .pre .4 in
+    omega (arith, few (c .before .before .before .before .before .before .before))
+
+crowded-requires : tie.Need-crowded-requires
+crowded-requires c κs = search needs
+
+-- so are both, 6 and 8
+asked : (c : tie.After-crowded) → let s = start (c .before .before .before .before .before .before .before .before .before .before .before .before .before) in c .crowded .result ≡ passed (crowding (map (numberAt (s .args .column .now)) (join (stay s)) ++ numbersIn (new s)))
+unfolding crowding full numbersIn
+asked c =
+    let k = c .before .before .before .before .before .before .before .before in
+    let s = start (c .before .before .before .before .before .before .before .before .before .before .before .before .before) in
+    let number = numberAt (s .args .column .now) in
+    let all = map number (join (stay s)) ++ numbersIn (new s) in
+    let size : k .stay .result .total + s .args .k ≡ length all = omega (arith, length-append (map number (join (stay s))) (numbersIn (new s)), length-map (join (stay s)) number, length-map (new s) (λ (a : Addition). a .number .0), total k, new-length s) in
+    c .crowded .ensures
+    ∙ ap (λ (b : Bool). passed ((b ⇒ 6) ∷ (ltb 256 (k .stay .result .total + s .args .k) ⇒ 8) ∷ [])) (twice (c .before))
+    ∙ ap (λ (n : ℕ). passed ((not (distinct all) ⇒ 6) ∷ (ltb 256 n ⇒ 8) ∷ [])) size
+
+array-share-prefix-new-levels-2 : tie.Need-array-share-prefix-new-levels-2
+array-share-prefix-new-levels-2 c = new-room (c .before .before .before .before .before .before .before .before .before .before .before .before .before) .0
+
+slice-aggregate-arrange : tie.Need-slice-aggregate-arrange
+slice-aggregate-arrange c = sym (length-take-le (start (c .before .before .before .before .before .before .before .before .before .before .before .before .before .before) .args .k) (made (c .before .before .before .before .before .before .before .before .before .before .before .before .before .before) .levels) (new-room (c .before .before .before .before .before .before .before .before .before .before .before .before .before .before) .0))
+
+arrange-requires : tie.Need-arrange-requires
+arrange-requires c κs =
+    let n = c .before .before .before .before .before .before .before .before .before .before .before .before .before .before in
+    let s = start n in
+    let h = s .pre .4 in
+    (omega (arith, length-take-le (s .args .k) (made n .levels) (new-room n .0)), ap areLevels (lent-levels n) ∙ s .pre .5)
+
+-- the additions in order
+arranged : (c : tie.After-arrange) → c .arrange .result ≡ arrangedOf (newPlaces (new (start (c .before .before .before .before .before .before .before .before .before .before .before .before .before .before .before))))
+unfolding newPlaces levelsIn
+arranged c =
+    let n = c .before .before .before .before .before .before .before .before .before .before .before .before .before .before .before in
+    let s = start n in
+    let levels = lent-levels n in
+    let keys = ap (λ (x : NewColumns). x .keys) (n .before .before .before .new-columns .ensures) in
+    c .arrange .ensures
+    ∙ ap (λ (z : List ℕ). arrangedOf (sortedLevels (keyBefore (made n .keys)) z (upFrom 0 (length z)))) levels
+    ∙ ap (λ (z : List Key). arrangedOf (sortedLevels (keyBefore z) (levelsIn (new s)) (upFrom 0 (length (levelsIn (new s)))))) keys
+    ∙ ap (λ (j : ℕ). arrangedOf (sortedLevels (keyBefore (newColumns (new s) .keys)) (levelsIn (new s)) (upFrom 0 j))) (length-map (new s) (λ (a : Addition). a .level))
+
+returns : tie.Need-returns
+unfolding planOf
+returns c =
+    let r = c .before .before in
+    let h = r .before .before in
+    let k = h .before .before .before .before .before .before .before .before in
+    let stays = kept k in
+    let adds = arranged r in
+    λ i. record {
+      outcome = asked h i;
+      places = stays i .places;
+      counts = stays i .counts;
+      order = adds i .order;
+      «new_counts» = adds i .counts;
+    }
+
+pub planned-spec : {M : Type 1} → statement M
+planned-spec =
+    tie.close
+    (tie.spec
+    deletion-columns-requires
+    new-columns-requires
+    array-share-prefix-gone-levels
+    slice-aggregate-stay
+    array-share-prefix-gone-numbers
+    slice-aggregate-stay-2
+    array-share-prefix-new-levels
+    slice-aggregate-stay-3
+    array-share-prefix-new-numbers
+    slice-aggregate-stay-4
+    stay-requires
+    array-share-prefix-places
+    slice-aggregate-numbers-at
+    numbers-at-requires
+    array-share-prefix-kept-numbers
+    slice-aggregate-has-twice
+    array-share-prefix-new-numbers-2
+    slice-aggregate-has-twice-2
+    has-twice-requires
+    add-crowded
+    crowded-requires
+    array-share-prefix-new-levels-2
+    slice-aggregate-arrange
+    arrange-requires
+    returns)

@@ -1,0 +1,134 @@
+-- Laws of an edit's entries as columns: what is read of them again, and what of the edit they are. Assumes nothing.
+use Prim.Native.Nat.{ℕ}
+use mathlib.Core.Path.{_≡_, refl, sym, ap, _∙_}
+use mathlib.Core.List.{List, [], map, map-map}
+use native.Mathlib.Omega.{arith}
+use lib.ListN.{length, getD, take, replicate, length-map, List·getD-map}
+use lib.Seq.{length-take-le}
+use Rattle.lemmas.specs.Slices.{put, put-map}
+use Rattle.lemmas.specs.Maps.{map-same, map-replicate}
+use Rattle.lemmas.specs.Merge.{front-laid}
+use Rattle.model.specs.File.{File, full}
+use Rattle.model.specs.Edit as model
+use Rattle.keys.specs.Key.{keyOf, keyRecord}
+use Rattle.keys.specs.KeyLaws.{keyOf-length, keyOf-record}
+use Rattle.keys.specs.declared.Key.{Key}
+use Rattle.records.specs.Record.{recordOf, blank, vacant}
+use Rattle.records.specs.RecordLaws.{past}
+use Rattle.records.specs.declared.FileRecord.{FileRecord}
+use Rattle.edits.specs.Edit.{editOf, deletionOf, additionOf}
+use Rattle.edits.specs.EditLaws.{HasRoom, Few, deletions-are, additions-are}
+use Rattle.edits.specs.declared.Edit.{Edit}
+use Rattle.edits.specs.declared.Deletion.{Deletion}
+use Rattle.edits.specs.declared.Addition.{Addition}
+use Rattle.builder.specs.Builder.{staysBy, keyAt}
+use Rattle.builder.specs.StayLaws.{staysIn}
+use Rattle.apply.specs.Apply.{deletionColumns, noKeys, levelsIn, numbersIn, newColumns, newsOf}
+
+-- the level of an addition
+abbrev pub levelIn : model.Addition → ℕ
+levelIn a = a .level
+
+-- its file
+abbrev pub fileIn : model.Addition → File
+fileIn a = a .file
+
+-- its number
+abbrev pub numberIn : model.Addition → ℕ
+numberIn a = a .file .number
+
+-- ---- the front of an array over which a column was laid
+
+front : {A B : Type 0} (d : List B) (f : A → B) (xs : List A) (k : ℕ) → k ≡ length xs → take k (put d 0 (map f xs)) ≡ map f xs
+front d f xs k e = front-laid d (put d 0 (map f xs)) (map f xs) k (omega (arith, length-map xs f)) refl
+
+module _ (ds : List Deletion) (k : ℕ) (q : k ≡ length ds) where
+  -- the levels of deletions
+  pub gone-levels : take k (deletionColumns ds .levels) ≡ map (λ (d : Deletion). d .level) ds
+  unfolding deletionColumns
+  gone-levels = front (replicate (full .deletions) 0) (λ (d : Deletion). d .level) ds k q
+
+  -- their numbers
+  pub gone-numbers : take k (deletionColumns ds .numbers) ≡ map (λ (d : Deletion). d .number .0) ds
+  unfolding deletionColumns
+  gone-numbers = front (replicate (full .deletions) 0) (λ (d : Deletion). d .number .0) ds k q
+
+module _ (as′ : List Addition) (k : ℕ) (q : k ≡ length as′) where
+  -- the levels of additions
+  pub new-levels : take k (newColumns as′ .levels) ≡ levelsIn as′
+  unfolding newColumns levelsIn
+  new-levels = front (replicate (full .additions) 0) (λ (a : Addition). a .level) as′ k q
+
+  -- their numbers
+  pub new-numbers : take k (newColumns as′ .numbers) ≡ numbersIn as′
+  unfolding newColumns numbersIn
+  new-numbers = front (replicate (full .additions) 0) (λ (a : Addition). a .number .0) as′ k q
+
+  -- their records
+  pub new-files : take k (newsOf as′) ≡ map (λ (a : Addition). recordOf (additionOf a .file)) as′
+  unfolding newsOf
+  new-files = front (vacant (full .additions)) (λ (a : Addition). recordOf (additionOf a .file)) as′ k q
+
+-- what is kept of an addition's smallest key stands for it
+kept : (a : Addition) → keyOf (a .smallest) ≡ keyOf (recordOf (additionOf a .file) .smallest)
+unfolding recordOf additionOf
+kept a = sym (keyOf-record (keyOf (a .smallest)) (keyOf-length (a .smallest)))
+
+-- at every place the key of the column is the smallest key of the record
+pub keys-are : (as′ : List Addition) (p : ℕ) → keyAt (newColumns as′ .keys) p ≡ keyOf (getD (newsOf as′) p past .smallest)
+unfolding keyAt newColumns newsOf noKeys vacant blank
+keys-are as′ p =
+    let low : FileRecord → List ℕ = λ r. keyOf (r .smallest) in
+    let none : Key = record { bytes = []; len = 0 } in
+    let n = full .additions in
+    let keys = map (λ (a : Addition). a .smallest) as′ in
+    let rs = map (λ (a : Addition). recordOf (additionOf a .file)) as′ in
+    let same : map keyOf keys ≡ map low rs = map-map keyOf (λ (a : Addition). a .smallest) as′ ∙ map-same (λ (a : Addition). keyOf (a .smallest)) (λ (a : Addition). low (recordOf (additionOf a .file))) as′ kept ∙ sym (map-map low (λ (a : Addition). recordOf (additionOf a .file)) as′) in
+    sym (List·getD-map keyOf (put (replicate n (keyRecord [])) 0 keys) p none)
+    ∙ ap (λ (z : List (List ℕ)). getD z p (keyOf none)) (put-map keyOf (replicate n (keyRecord [])) 0 keys)
+    ∙ ap (λ (z : List (List ℕ)). getD (put z 0 (map keyOf keys)) p (keyOf none)) (map-replicate keyOf n (keyRecord []) ∙ sym (map-replicate low n blank))
+    ∙ ap (λ (z : List (List ℕ)). getD (put (map low (replicate n blank)) 0 z) p (keyOf none)) same
+    ∙ ap (λ (z : List (List ℕ)). getD z p (keyOf none)) (sym (put-map low (replicate n blank) 0 rs))
+    ∙ List·getD-map low (put (replicate n blank) 0 rs) p past
+
+-- ---- an edit's own
+module _ (e : Edit) (r : HasRoom e) (w : Few e) where
+  -- the deletions that the edit has
+  abbrev pub gone : List Deletion
+  gone = take (e .«deletion_count») (e .deletions)
+
+  -- the additions that it has
+  abbrev pub new : List Addition
+  new = take (e .«addition_count») (e .additions)
+
+  -- as many as the count says
+  pub new-length : length new ≡ e .«addition_count»
+  new-length = let a = r .additions in let b = w .additions in length-take-le (e .«addition_count») (e .additions) (omega arith)
+
+  -- as many additions as the count says
+  pub additions-length : length (editOf e .additions) ≡ e .«addition_count»
+  additions-length = ap length (additions-are e w) ∙ length-map new additionOf ∙ new-length
+
+  -- the levels of its additions
+  pub levels-are : levelsIn new ≡ map levelIn (editOf e .additions)
+  unfolding levelsIn additionOf
+  levels-are = sym (ap (map levelIn) (additions-are e w) ∙ map-map levelIn additionOf new)
+
+  -- their numbers
+  pub numbers-are : numbersIn new ≡ map numberIn (editOf e .additions)
+  unfolding numbersIn additionOf
+  numbers-are = sym (ap (map numberIn) (additions-are e w) ∙ map-map numberIn additionOf new)
+
+  -- their records
+  pub records-are : map (λ (a : Addition). recordOf (additionOf a .file)) new ≡ map recordOf (map fileIn (editOf e .additions))
+  records-are =
+      sym (ap (λ (as′ : List model.Addition). map recordOf (map fileIn as′)) (additions-are e w) ∙ ap (map recordOf) (map-map fileIn additionOf new)
+      ∙ map-map recordOf (λ (a : Addition). additionOf a .file) new)
+
+  -- so the test of what stays is the edit's
+  pub stays-is : staysBy (map (λ (d : Deletion). d .level) gone) (map (λ (d : Deletion). d .number .0) gone) (levelsIn new) (numbersIn new) ≡ staysIn (editOf e)
+  unfolding deletionOf
+  stays-is =
+      let a = ap (map (λ (d : model.Deletion). d .level)) (deletions-are e w) ∙ map-map (λ (d : model.Deletion). d .level) deletionOf gone in
+      let b = ap (map (λ (d : model.Deletion). d .number)) (deletions-are e w) ∙ map-map (λ (d : model.Deletion). d .number) deletionOf gone in
+      rw (levels-are, numbers-are, a, b)

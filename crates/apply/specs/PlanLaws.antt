@@ -1,0 +1,211 @@
+-- Laws of the plan of an edit: it decides 6 and 8, and merging by it gives the survivors. Assumes nothing.
+use Prim.Native.Nat.{ℕ, _+_, _≤_, _<_}
+use mathlib.Core.Path.{_≡_, refl, sym, ap, _∙_}
+use mathlib.Core.Bool.{true}
+use mathlib.Core.List.{List, _++_, map, map-map, List·Memᴰ as In}
+use native.Mathlib.Omega.{arith}
+use lib.ListN.{length, take, replicate, length-append, length-map, length-replicate}
+use lib.Seq.{length-take-le}
+use Rattle.lemmas.specs.Lists.{join, distinct, sum, upFrom}
+use Rattle.lemmas.specs.Slices.{put, length-put, parts, sum-lengths}
+use Rattle.lemmas.specs.UpFrom.{upFrom-length}
+use Rattle.lemmas.specs.Maps.{join-map}
+use Rattle.lemmas.specs.Merge.{front-laid}
+use Rattle.model.specs.File.{File, full, numbers, inOrder, levelwise}
+use Rattle.model.specs.Edit.{survivorsFrom}
+use Rattle.records.specs.Record.{fileOf, recordOf, blank, vacant}
+use Rattle.records.specs.declared.FileRecord.{FileRecord}
+use Rattle.levels.specs.Levels.{levelsOf}
+use Rattle.edits.specs.Edit.{editOf, additionOf, passed}
+use Rattle.edits.specs.EditLaws.{HasRoom, Few}
+use Rattle.edits.specs.declared.Edit.{Edit}
+use Rattle.edits.specs.declared.Deletion.{Deletion}
+use Rattle.edits.specs.declared.Addition.{Addition}
+use Rattle.builder.specs.Builder.{recordNumber, staysBy, stayersBy, numberAt, placesOf, isBelow, keptOf, recordsAt, filesOf, recordBefore, keyBefore, sortedLevels, areLevels, arrangedOf, merges, mergedOf}
+use Rattle.builder.specs.StayLaws.{staysIn, stayers-few}
+use Rattle.builder.specs.ArrangeLaws.{key-order, sorted-length}
+use Rattle.builder.specs.PlaceLaws as place
+use Rattle.apply.specs.Apply.{levelsIn, numbersIn, newColumns, newsOf, stayPlaces, newPlaces, crowding, planOf}
+use Rattle.apply.specs.ColumnLaws as entries
+use Rattle.apply.specs.BuildLaws.{Ready, staying, ordered, united, fine-are, staying-ordered, staying-distinct, twice-is, survivors-length}
+use Rattle.apply.specs.declared.Plan.{Plan}
+
+-- ---- the places that stay
+module _ (column counts : List ℕ) (ds : List Deletion) (as′ : List Addition) (room : sum counts ≤ 256) where
+  -- they are no more than there were
+  pub stay-few : length (join (stayPlaces column counts ds as′)) ≤ sum counts
+  unfolding stayPlaces
+  stay-few =
+      let test = staysBy (map (λ (d : Deletion). d .level) ds) (map (λ (d : Deletion). d .number .0) ds) (levelsIn as′) (numbersIn as′) in
+      omega (arith, stayers-few (numberAt column) test 0 (placesOf counts), ap length (place.places-joined counts room), upFrom-length 0 (sum counts))
+
+  -- each is a place of the base
+  pub stay-below : (p : ℕ) → In p (join (stayPlaces column counts ds as′)) → p < sum counts
+  unfolding stayPlaces
+  stay-below p i = place.stay-below (numberAt column) _ counts room p i
+
+-- ---- an edit on well-formed levels
+
+-- a column of numbers, as it is lent
+pub column-is : (files : List FileRecord) (n k : ℕ) (laid : List ℕ) → n ≤ length files → k ≡ n → laid ≡ put (replicate 256 0) 0 (map recordNumber (take n files)) → take k laid ≡ map recordNumber (take n files)
+column-is files n k laid h e q =
+    front-laid (replicate 256 0) laid (map recordNumber (take n files)) k (omega (arith, length-map (take n files) recordNumber, length-take-le n files h)) q
+
+module _ (files : List FileRecord) (counts : List ℕ) (e : Edit) (r : HasRoom e) (w : Few e) (g : Ready files counts (editOf e)) (column : List ℕ)
+    (hc : column ≡ map recordNumber (take (sum counts) files)) where
+  -- there is room for the base
+  room : sum counts ≤ 256
+  room = g .well .sound .room
+
+  -- the column is as long as the base is large
+  pub column-length : length column ≡ sum counts
+  column-length = let a = room in let b = g .room in ap length hc ∙ length-map (take (sum counts) files) recordNumber ∙ length-take-le (sum counts) files (omega arith)
+
+  -- the places that stay
+  abbrev pub stay : List (List ℕ)
+  stay = stayPlaces column counts (entries.gone e r w) (entries.new e r w)
+
+  -- by the edit's own test
+  stay-is : stay ≡ stayersBy (numberAt column) (staysIn (editOf e)) 0 (placesOf counts)
+  unfolding stayPlaces
+  stay-is = rw (entries.stays-is e r w)
+
+  -- what stands there
+  stay-stands : map (recordsAt files) stay ≡ staying files counts (editOf e)
+  stay-stands = ap (map (recordsAt files)) stay-is ∙ place.stay-records files counts column (staysIn (editOf e)) (g .room) room hc
+
+  -- the numbers there
+  stay-numbers : map (numberAt column) (join stay) ≡ numbers (map fileOf (join (staying files counts (editOf e))))
+  unfolding numbers fileOf
+  stay-numbers =
+      ap (λ (z : List (List ℕ)). map (numberAt column) (join z)) stay-is
+      ∙ place.stay-numbers files counts column (staysIn (editOf e)) (g .room) room hc
+      ∙ sym (map-map (λ (f : File). f .number) fileOf (join (staying files counts (editOf e))))
+
+  -- none of them stands twice
+  pub stay-distinct : distinct (map (numberAt column) (join stay)) ≡ true
+  stay-distinct = rw stay-numbers (staying-distinct files counts (editOf e) g)
+
+  -- as many as stay
+  stay-size : length (join stay) ≡ length (join (staying files counts (editOf e)))
+  unfolding recordsAt
+  stay-size =
+      sym (length-map (join stay) _) ∙ ap length (sym (join-map _ stay)) ∙ ap (λ (z : List (List FileRecord)). length (join z)) stay-stands
+
+  -- the numbers of all survivors
+  abbrev pub every : List ℕ
+  every = map (numberAt column) (join stay) ++ numbersIn (entries.new e r w)
+
+  -- 6, by them
+  pub once-is : distinct every ≡ distinct (numbers (join (survivorsFrom (editOf e) 0 (levelsOf files counts))))
+  once-is = rw (stay-numbers, entries.numbers-are e r w) (sym (twice-is files counts (editOf e) g))
+
+  -- 8, by them
+  pub total-is : length every ≡ length (join (survivorsFrom (editOf e) 0 (levelsOf files counts)))
+  unfolding numbersIn
+  total-is =
+      omega (
+        arith,
+        length-append (map (numberAt column) (join stay)) (numbersIn (entries.new e r w)),
+        length-map (join stay) (numberAt column),
+        length-map (entries.new e r w) (λ (a : Addition). a .number .0),
+        stay-size,
+        survivors-length files counts (editOf e) g,
+        entries.new-length e r w,
+        entries.additions-length e r w,
+      )
+
+  -- ---- the additions
+
+  -- their levels are levels
+  pub levels-fine : areLevels (levelsIn (entries.new e r w)) ≡ true
+  levels-fine = rw (entries.levels-are e r w) (fine-are (editOf e) (g .fine))
+
+  -- what stands at their places
+  new-stands : map (recordsAt (newsOf (entries.new e r w))) (newPlaces (entries.new e r w)) ≡ ordered (editOf e)
+  unfolding newPlaces newsOf full vacant
+  new-stands =
+      let as′ = entries.new e r w in
+      let k = length as′ in
+      let n = entries.new-length e r w in
+      let few = w .additions in
+      let long : k ≤ length (newsOf as′) = omega (arith, length-put (replicate 64 blank) 0 (map (λ (a : Addition). recordOf (additionOf a .file)) as′) (omega (arith, length-map as′ (λ (a : Addition). recordOf (additionOf a .file)), length-replicate 64 blank)), length-replicate 64 blank) in
+      place.sorted-records (newsOf as′) (newColumns as′ .keys) (levelsIn as′) k long (entries.keys-are as′)
+      ∙ ap (sortedLevels recordBefore (levelsIn as′)) (entries.new-files as′ k refl ∙ entries.records-are e r w)
+      ∙ ap (λ (ks : List ℕ). sortedLevels recordBefore ks (map recordOf (map entries.fileIn (editOf e .additions)))) (entries.levels-are e r w)
+
+  -- as many as the edit adds
+  new-size : length (join (newPlaces (entries.new e r w))) ≡ e .«addition_count»
+  unfolding newPlaces levelsIn
+  new-size =
+      let as′ = entries.new e r w in
+      let keys = newColumns as′ .keys in
+      sorted-length (keyBefore keys) (key-order keys) (levelsIn as′) (upFrom 0 (length as′)) 0 levels-fine (length-map as′ (λ (a : Addition). a .level) ∙ sym (upFrom-length 0 (length as′)))
+      ∙ upFrom-length 0 (length as′) ∙ entries.new-length e r w
+
+  -- ---- the plan
+  module _ (p : Plan) (q : p ≡ planOf column counts (entries.gone e r w) (entries.new e r w)) where
+    -- 6 and 8, by the numbers of all survivors
+    pub plan-outcome : p .outcome ≡ passed (crowding every)
+    unfolding planOf
+    plan-outcome = ap (λ (x : Plan). x .outcome) q
+
+    -- its places are places of the base
+    pub plan-places : isBelow 256 (p .places) ≡ true
+    unfolding planOf keptOf full
+    plan-places =
+        let h = room in
+        ap (λ (x : Plan). isBelow 256 (x .places)) q
+        ∙ place.below-laid 256 256 (join stay) (omega arith) (place.below-of 256 (join stay) (λ n i. omega (arith, stay-below column counts (entries.gone e r w) (entries.new e r w) room n i)))
+
+    -- and of the additions
+    pub plan-order : isBelow 64 (p .order) ≡ true
+    unfolding planOf arrangedOf full newPlaces
+    plan-order =
+        let as′ = entries.new e r w in
+        let h = w .additions in
+        let n = entries.new-length e r w in
+        ap (λ (x : Plan). isBelow 64 (x .order)) q
+        ∙ place.below-laid 64 64 (join (newPlaces as′)) (omega arith) (place.below-of 64 (join (newPlaces as′)) (λ p i. omega (arith, place.sorted-below _ _ (length as′) p i)))
+
+    -- as many additions as the edit has
+    pub plan-news : sum (p .«new_counts») ≡ e .«addition_count»
+    unfolding planOf arrangedOf
+    plan-news = ap (λ (x : Plan). sum (x .«new_counts»)) q ∙ sum-lengths (newPlaces (entries.new e r w)) ∙ new-size
+
+    -- together as many as survive
+    pub plan-total : sum (p .counts) + sum (p .«new_counts») ≡ length every
+    unfolding planOf keptOf numbersIn
+    plan-total =
+        omega (
+          arith,
+          ap (λ (x : Plan). sum (x .counts)) q ∙ sum-lengths stay,
+          plan-news,
+          entries.new-length e r w,
+          length-append (map (numberAt column) (join stay)) (numbersIn (entries.new e r w)),
+          length-map (join stay) (numberAt column),
+          length-map (entries.new e r w) (λ (a : Addition). a .number .0),
+        )
+
+    -- what stays, as it stands in the base
+    plan-stays : parts (recordsAt files (p .places)) (p .counts) ≡ staying files counts (editOf e)
+    unfolding planOf keptOf
+    plan-stays = ap (λ (x : Plan). parts (recordsAt files (x .places)) (x .counts)) q ∙ place.laid-records files (replicate (full .room) 0) stay ∙ stay-stands
+
+    -- it is in order
+    pub plan-ordered : levelwise inOrder 0 (filesOf (parts (recordsAt files (p .places)) (p .counts))) ≡ true
+    plan-ordered = rw plan-stays (staying-ordered files counts (editOf e) g)
+
+    -- the additions in order
+    plan-adds : (news : List FileRecord) → news ≡ newsOf (entries.new e r w) → parts (recordsAt news (p .order)) (p .«new_counts») ≡ ordered (editOf e)
+    unfolding planOf arrangedOf
+    plan-adds news f =
+        ap (λ (x : Plan). parts (recordsAt news (x .order)) (x .«new_counts»)) q
+        ∙ place.laid-records news (replicate (full .additions) 0) (newPlaces (entries.new e r w))
+        ∙ ap (λ (z : List FileRecord). map (recordsAt z) (newPlaces (entries.new e r w))) f
+        ∙ new-stands
+
+    -- merged by the plan
+    pub plan-merged : (news : List FileRecord) → news ≡ newsOf (entries.new e r w)
+        → mergedOf (merges (parts (recordsAt files (p .places)) (p .counts)) (parts (recordsAt news (p .order)) (p .«new_counts»))) ≡ mergedOf (united files counts (editOf e))
+    plan-merged news f = rw (plan-stays, plan-adds news f)
