@@ -1,0 +1,644 @@
+-- Laws of picked answers: one picked answer has one sound record, what well-formed says, and what a call on a picked answer gives. Assumes nothing.
+use Prim.Native.Nat.{ℕ, zero, suc, _+_, _-_, _*_, _^_, _≤_, _<_, min}
+use mathlib.Core.Path.{_≡_, refl, sym, ap, _∙_, subst}
+use mathlib.Core.Logic.{_↔_}
+use mathlib.Core.Bool.{Bool, true, false, not, _&&_, cond}
+use mathlib.Core.List.{List, [], _∷_, _++_, map, map-map, map-append, append-nil, append-assoc, List·Memᴰ as In, List·Memᴰ·head as here, List·Memᴰ·tail as there, List·Memᴰ·not-nil as not-nil}
+use native.Mathlib.Omega.{arith}
+use native.Mathlib.Nat.{add-zero, zero-add}
+use native.Mathlib.Numerals.{add-one}
+use lib.Dec.{eqb, leb, ltb}
+use borrow.Author.Tests.{leb-true, le-leb, lt-leb, eqb-false, eq-eqb, ne-eqb, lt-ltb, le-ltb, not-false}
+use lib.ListN.{length, getD, take, drop, replicate, length-map, length-append}
+use lib.Seq.{slice, length-take-le, take-at, take-append-le, take-take, drop-drop}
+use Rattle.lemmas.specs.Order.{clash}
+use Rattle.lemmas.specs.Lists.{all, chain, join, sum, distinct, isEmpty}
+use Rattle.lemmas.specs.ListLaws.{and-left, and-right, and-true, both, all-in, map-same}
+use Rattle.lemmas.specs.Distinct.{same-test}
+use Rattle.lemmas.specs.Maps.{all-join}
+use Rattle.lemmas.specs.Merge as merge
+use Rattle.lemmas.specs.Each.{Each, each-slice}
+use Rattle.lemmas.specs.Slices.{put, put-front, parts, take-drop, run-join, slice-map, length-view}
+use Rattle.model.specs.Answer.{Answer, gives, refused, Refusal, _⇒_, firstOf, onAnswer, lent}
+use Rattle.model.specs.File.{File, full, total, numbers, inOrder, levelwise, goodFile}
+use Rattle.model.specs.File as file
+use Rattle.model.specs.Edit as model-edit
+use Rattle.model.specs.Pick as model
+use Rattle.model.specs.Pick.{badMaximum, goodLevel, goodPicked, isManual, trivial, inputDeletions}
+use Rattle.model.specs.PickedLaws.{goodLevel-says, GoodPicked, goodPicked-says}
+use Rattle.model.specs.Calls as calls
+use Rattle.answers.specs.declared.Counted.{Counted}
+use Rattle.answers.specs.declared.Counted.the-variants as counted
+use Rattle.answers.specs.Outcome.{countedOf, filling}
+use Rattle.records.specs.Record.{fileOf, soundRecord, wellRecord, isBlank}
+use Rattle.records.specs.RecordLaws.{AllShaped, AllWords, well-list, well-list-is, total-bound}
+use Rattle.records.specs.Run.{run}
+use Rattle.records.specs.declared.FileRecord.{FileRecord}
+use Rattle.levels.specs.Levels.{levelsOf, laidOut, countsOf, soundLevels}
+use Rattle.levels.specs.LevelsLaws as levels
+use Rattle.edits.specs.declared.Edit.{Edit}
+use Rattle.edits.specs.Edit.{entries, deletionOf, editOf}
+use Rattle.picked.specs.declared.Cause.{Cause}
+use Rattle.picked.specs.declared.Cause.the-variants.{Size, Manual}
+use Rattle.picked.specs.declared.Picked.{Picked}
+use Rattle.picked.specs.Picked.{causeOf, causeRecord, countsIn, listsIn, pickedOf, threeLists, pickedRecord, soundPicked, wellPicked, onPicked, framed, asLevels, distinctLists, deletionAt, deletionRecord, roomIn, withDeletions, deletedBy, naming, Names}
+
+-- ---- causes
+
+-- a cause and its record stand for each other
+pub cause-is : (x : Cause) → causeRecord (causeOf x) ≡ x
+unfolding causeOf causeRecord
+cause-is (Size x) = refl
+cause-is Manual = refl
+
+pub causeOf-record : (x : model.Cause) → causeOf (causeRecord x) ≡ x
+unfolding causeOf causeRecord
+causeOf-record (model.bySize x) = refl
+causeOf-record model.manual = refl
+
+-- ---- the three lists
+
+module _ (c : Picked) where
+  -- the first inputs stand from 0 on, the second inputs after them, the grandparents after those
+  pub first-run : pickedOf c .first ≡ run 0 (c .first) (c .files)
+  unfolding pickedOf listsIn countsIn sum
+  first-run =
+      levels.level-run (c .files) (c .first ∷ c .second ∷ c .grand ∷ []) 0 (omega arith)
+      ∙ ap (λ (n : ℕ). run 0 n (c .files)) (zero-add (c .first))
+
+  pub second-run : pickedOf c .second ≡ run (c .first) (c .first + c .second) (c .files)
+  unfolding pickedOf listsIn countsIn sum
+  second-run =
+      levels.level-run (c .files) (c .first ∷ c .second ∷ c .grand ∷ []) 1 (omega arith)
+      ∙ ap (λ (n : ℕ). run n (n + c .second) (c .files)) (add-zero (c .first))
+
+  pub grand-run : pickedOf c .grand ≡ run (c .first + c .second) (c .first + c .second + c .grand) (c .files)
+  unfolding pickedOf listsIn countsIn sum
+  grand-run =
+      let e : c .first + (c .second + 0) ≡ c .first + c .second = omega arith in
+      levels.level-run (c .files) (c .first ∷ c .second ∷ c .grand ∷ []) 2 (omega arith)
+      ∙ ap (λ (n : ℕ). run n (n + c .grand) (c .files)) e
+
+  -- they are all the lists
+  pub three : threeLists (pickedOf c) ≡ listsIn c
+  unfolding threeLists pickedOf listsIn countsIn levelsOf parts
+  three = refl
+
+  -- how many files there are
+  pub sum-is : sum (countsIn c) ≡ c .first + c .second + c .grand
+  unfolding countsIn sum
+  sum-is = omega arith
+
+-- ---- one picked answer, one sound record
+
+-- the lengths of a record's arrays
+pub record Shape (c : Picked) : Type 0 where
+  pub files : length (c .files) ≡ 256
+  pub records : AllShaped (c .files)
+
+-- a sound record is the one that holds its picked answer
+pub canonical : (c : Picked) → Shape c → soundPicked c ≡ true → c ≡ pickedRecord (pickedOf c)
+unfolding pickedRecord soundPicked countsOf countsIn pickedOf threeLists listsIn levelsOf parts
+canonical c q h =
+    let e = levels.sound-is (c .files) (c .first ∷ c .second ∷ c .grand ∷ []) (q .files) (q .records) h in
+    let cause = sym (cause-is (c .cause)) in
+    let size : (k : ℕ) → getD (c .first ∷ c .second ∷ c .grand ∷ []) k 0 ≡ getD (map length (threeLists (pickedOf c))) k 0 = λ k. ap (λ (ns : List ℕ). getD ns k 0) (e .1) in
+    λ i. record { level = c .level; cause = cause i; maximum = c .maximum; files = e .0 i; first = size 0 i; second = size 1 i; grand = size 2 i }
+
+-- any two sound records of one picked answer are one
+pub two-outcomes : (c c′ : Picked) → Shape c → Shape c′ → soundPicked c ≡ true → soundPicked c′ ≡ true → pickedOf c ≡ pickedOf c′ → c ≡ c′
+two-outcomes c c′ q q′ h h′ e = canonical c q h ∙ ap pickedRecord e ∙ sym (canonical c′ q′ h′)
+
+-- the files of a well-formed level are good
+pub level-good : (l : ℕ) (fs : List File) → goodLevel full l fs ≡ true → all (goodFile full) fs ≡ true
+level-good l fs g = all-in (goodFile full) fs .1 (goodLevel-says full l fs .0 g .good)
+
+-- a picked answer that is well-formed
+module _ (p : model.Picked) (g : goodPicked full p ≡ true) where
+  -- its lists have room in an array
+  pub fits : levels.Fits (threeLists p)
+  unfolding threeLists join full
+  fits =
+      let t = goodPicked-says full p .0 g in
+      let rest = merge.all-both (goodFile full) (p .second) (p .grand ++ []) (level-good (suc (p .level)) (p .second) (t .second)) (rw (append-nil (p .grand)) (level-good (p .level + 2) (p .grand) (t .grand))) in
+      record {
+        room = omega (arith, t .room, length-append (p .first) (p .second ++ (p .grand ++ [])), length-append (p .second) (p .grand ++ []), length-append (p .grand) []);
+        good = merge.all-both (goodFile full) (p .first) (p .second ++ (p .grand ++ [])) (level-good (p .level) (p .first) (t .first)) rest;
+      }
+
+  -- the record that holds it stands for it, and is sound
+  pub held : (pickedOf (pickedRecord p) ≡ p) × (soundPicked (pickedRecord p) ≡ true)
+  unfolding pickedOf pickedRecord soundPicked countsIn listsIn countsOf threeLists
+  held =
+      let l = levels.held-levels (threeLists p) fits in
+      let cause = causeOf-record (p .cause) in
+      let at : (k : ℕ) → getD (levelsOf (laidOut (threeLists p)) (countsOf (threeLists p))) k [] ≡ getD (threeLists p) k [] = λ k. ap (λ (ls : List (List File)). getD ls k []) l in
+      (λ i. record { level = p .level; cause = cause i; maximum = p .maximum; first = at 0 i; second = at 1 i; grand = at 2 i }, levels.sound-laid (threeLists p) fits)
+
+  -- its arrays have their lengths
+  pub held-shape : Shape (pickedRecord p)
+  unfolding pickedRecord
+  held-shape = record { files = levels.laid-length (threeLists p) fits; records = levels.laid-shaped (threeLists p) fits }
+
+  -- and it is well-formed
+  pub held-well : wellPicked (pickedRecord p) ≡ true
+  unfolding wellPicked
+  held-well = both (soundPicked (pickedRecord p)) (goodPicked full (pickedOf (pickedRecord p))) (held .1) (rw (held .0) g)
+
+-- ---- well-formed picked answers
+
+-- what well-formedness says
+pub record Well (c : Picked) : Type 0 where
+  pub sound : levels.Sound (c .files) (countsIn c)
+  pub good : GoodPicked full (pickedOf c)
+
+pub well-says : (c : Picked) → wellPicked c ≡ true ↔ Well c
+unfolding wellPicked soundPicked
+well-says c =
+    let a = soundLevels (c .files) (countsIn c) in
+    let b = goodPicked full (pickedOf c) in
+    let sound = levels.sound-says (c .files) (countsIn c) in
+    let good = goodPicked-says full (pickedOf c) in (
+      λ h. record { sound = sound .0 (and-left a b h); good = good .0 (and-right a b h) },
+      λ w. both a b (sound .1 (w .sound)) (good .1 (w .good)),
+    )
+
+-- it has no more files than there is room for
+pub well-room : (c : Picked) → wellPicked c ≡ true → c .first + c .second + c .grand ≤ 256
+well-room c h = let r = well-says c .0 h .sound .room in omega (arith, sum-is c)
+
+-- and its level is one of 0 to 5
+pub well-level : (c : Picked) → wellPicked c ≡ true → c .level ≤ 5
+unfolding pickedOf full
+well-level c h = let l = well-says c .0 h .good .level in omega arith
+
+-- a call on a well-formed picked answer gives what it gives for what that stands for
+pub onPicked-well : {A : Type 0} (c : Picked) (call : model.Picked → Answer A) → wellPicked c ≡ true → onPicked c call ≡ call (pickedOf c)
+unfolding onPicked wellPicked
+onPicked-well c call h = rw (and-left (soundPicked c) (goodPicked full (pickedOf c)) h)
+
+-- a call that asks first for a well-formed picked answer is refused by 14 on one that is not
+pub onPicked-ill : {A : Type 0} (c : Picked) (call : model.Picked → Answer A) → (goodPicked full (pickedOf c) ≡ false → call (pickedOf c) ≡ refused 14) → wellPicked c ≡ false
+    → onPicked c call ≡ refused 14
+unfolding onPicked wellPicked
+onPicked-ill {A} c call k h = go (soundPicked c) h
+  where
+    go : (t : Bool) → (t && goodPicked full (pickedOf c)) ≡ false → _≡_ {A = Answer A} (cond t (call (pickedOf c)) (refused 14)) (refused 14)
+    go true e = k e
+    go false e = refl
+
+-- ---- the test, part by part
+
+-- 64-bit numbers of files, from those of their records
+words-in : (rs : List FileRecord) → AllWords rs → (f : File) → In f (map fileOf rs) → f .number < 2 ^ 64
+unfolding Each fileOf
+words-in [] w f m = absurd (not-nil m)
+words-in (r ∷ rs) w f (here e) = subst (λ (g : File). g .number < 2 ^ 64) (sym e) (w .0)
+words-in (r ∷ rs) w f (there m) = words-in rs (w .1) f m
+
+-- no file, by the number of files
+empty-is : (fs : List File) → isEmpty fs ≡ eqb (length fs) 0
+unfolding isEmpty
+empty-is [] = sym (eq-eqb 0 0 refl)
+empty-is (f ∷ fs) = sym (ne-eqb (suc (length fs)) 0 (λ e. omega arith))
+
+-- a run of good files with no number twice, in order, is a well-formed level
+run-good : (files : List FileRecord) → length files ≡ 256 → AllWords files → (l from to : ℕ) → to ≤ 256 → all (goodFile full) (run from to files) ≡ true
+    → distinct (numbers (run from to files)) ≡ true → inOrder l (run from to files) ≡ true → goodLevel full l (run from to files) ≡ true
+unfolding run full
+run-good files q w l from to h g d o =
+    let fs = map fileOf (slice from to files) in
+    goodLevel-says full l fs .1 record {
+      good = all-in (goodFile full) fs .0 g;
+      words = words-in (slice from to files) (each-slice (λ (r : FileRecord). r .number .0 < 2 ^ 64) from to files w);
+      distinct-numbers = d;
+      room = omega (arith, length-view fileOf from to files (omega arith));
+      ordered = o;
+    }
+
+-- the orders of the three lists are those of the levels that they are taken for
+pub order-is : (files : List FileRecord) (l a b c : ℕ)
+    → levelwise inOrder 0 (levelsOf files (asLevels l a b c))
+    ≡ (inOrder l (getD (levelsOf files (a ∷ b ∷ c ∷ [])) 0 []) && (inOrder (suc l) (getD (levelsOf files (a ∷ b ∷ c ∷ [])) 1 []) && inOrder (suc (suc l)) (getD (levelsOf files (a ∷ b ∷ c ∷ [])) 2 [])))
+unfolding asLevels levelsOf parts levelwise inOrder chain
+order-is files zero a b c = simp and-true
+order-is files (suc l) a b c = simp and-true
+
+-- and they are as many
+pub levels-sum : (l a b c : ℕ) → sum (asLevels l a b c) ≡ a + b + c
+unfolding asLevels sum
+levels-sum zero a b c = omega arith
+levels-sum (suc l) a b c = omega arith
+
+-- more files than there is room for
+pub too-many : (c : Picked) → 256 < c .first + c .second + c .grand → wellPicked c ≡ false
+unfolding wellPicked soundPicked soundLevels full
+too-many c h = rw (lt-leb (sum (countsIn c)) 256 (omega (arith, sum-is c)))
+
+-- where they have room, each list is as long as its count says
+module _ (c : Picked) (q : length (c .files) ≡ 256) (h : c .first + c .second + c .grand ≤ 256) where
+  pub first-length : length (pickedOf c .first) ≡ c .first
+  unfolding run
+  first-length = ap length (first-run c) ∙ length-view fileOf 0 (c .first) (c .files) (omega arith) ∙ omega arith
+
+  pub second-length : length (pickedOf c .second) ≡ c .second
+  unfolding run
+  second-length = ap length (second-run c) ∙ length-view fileOf (c .first) (c .first + c .second) (c .files) (omega arith) ∙ omega arith
+
+  pub grand-length : length (pickedOf c .grand) ≡ c .grand
+  unfolding run
+  grand-length = ap length (grand-run c) ∙ length-view fileOf (c .first + c .second) (c .first + c .second + c .grand) (c .files) (omega arith) ∙ omega arith
+
+-- and the test is made of the code's
+module _ (c : Picked) (q : length (c .files) ≡ 256) (w : AllWords (c .files)) (n : ℕ) (e : c .first + c .second + c .grand ≡ n) (h : n ≤ 256) where
+  abbrev inputs : List File
+  inputs = pickedOf c .first
+
+  abbrev others : List File
+  others = pickedOf c .second
+
+  abbrev grands : List File
+  grands = pickedOf c .grand
+
+  within : c .first + c .second + c .grand ≤ 256
+  within = omega arith
+
+  -- what is asked beside the files is asked of the counts
+  abbrev frame : Bool
+  frame = framed (c .level) (c .maximum) (c .first) (c .grand)
+
+  good-is : goodPicked full (pickedOf c)
+      ≡ (frame && goodLevel full (c .level) inputs && goodLevel full (suc (c .level)) others && goodLevel full (c .level + 2) grands && leb (length inputs + length others + length grands) 256)
+  unfolding goodPicked framed full pickedOf
+  good-is = rw (empty-is inputs, first-length c q within, empty-is grands, grand-length c q within)
+
+  -- all files are those of the three lists
+  all-files : all (goodFile full) (map fileOf (take n (c .files))) ≡ (all (goodFile full) inputs && (all (goodFile full) others && (all (goodFile full) grands && true)))
+  unfolding threeLists all listsIn
+  all-files =
+      let s : sum (countsIn c) ≡ n = sum-is c ∙ e in
+      let j : join (listsIn c) ≡ map fileOf (take n (c .files)) = rw s at (levels.files-of-levels (c .files) (countsIn c) (omega arith)) in
+      sym (ap (all (goodFile full)) (ap join (three c) ∙ j)) ∙ all-join (goodFile full) (threeLists (pickedOf c))
+
+  -- the test of each of the three parts that a level is tested for
+  abbrev orders : Bool
+  orders = inOrder (c .level) inputs && (inOrder (suc (c .level)) others && inOrder (suc (suc (c .level))) grands)
+
+  ordered-is : levelwise inOrder 0 (levelsOf (c .files) (asLevels (c .level) (c .first) (c .second) (c .grand))) ≡ orders
+  unfolding pickedOf listsIn countsIn
+  ordered-is = order-is (c .files) (c .level) (c .first) (c .second) (c .grand)
+
+  abbrev numbered : Bool
+  numbered = distinct (numbers inputs) && (distinct (numbers others) && (distinct (numbers grands) && true))
+
+  distinct-is : distinctLists (listsIn c) ≡ numbered
+  unfolding distinctLists all threeLists
+  distinct-is = ap distinctLists (sym (three c))
+
+  abbrev tested : Bool
+  tested = frame && all wellRecord (take n (c .files)) && all isBlank (drop n (c .files)) && numbered && orders
+
+  sound-n : levels.Sound (c .files) (countsIn c) → (all soundRecord (take n (c .files)) ≡ true) × (all isBlank (drop n (c .files)) ≡ true)
+  sound-n s = let k : sum (countsIn c) ≡ n = sum-is c ∙ e in (rw k at (s .records), rw k at (s .blanks))
+
+  -- a well-formed picked answer passes each
+  passes : wellPicked c ≡ true → tested ≡ true
+  unfolding pickedOf
+  passes t =
+      let v = well-says c .0 t in
+      let s = sound-n (v .sound) in
+      let g = v .good in
+      let f = goodLevel-says full (c .level) inputs .0 (g .first) in
+      let o = goodLevel-says full (suc (c .level)) others .0 (g .second) in
+      let p : c .level + 2 ≡ suc (suc (c .level)) = omega arith in
+      let r = goodLevel-says full (suc (suc (c .level))) grands .0 (rw p at (g .grand)) in
+      let a = goodLevel full (c .level) inputs in
+      let b = goodLevel full (suc (c .level)) others in
+      let d = goodLevel full (c .level + 2) grands in
+      let z = leb (length inputs + length others + length grands) 256 in
+      let framing : frame ≡ true = and-left frame a (and-left (frame && a) b (and-left (frame && a && b) d (and-left (frame && a && b && d) z (sym good-is ∙ goodPicked-says full (pickedOf c) .1 g)))) in
+      let files : all (goodFile full) (map fileOf (take n (c .files))) ≡ true =
+      all-files ∙ rw (level-good (c .level) inputs (g .first), level-good (suc (c .level)) others (g .second), level-good (c .level + 2) grands (g .grand)) in
+      let records : all wellRecord (take n (c .files)) ≡ true = rw (well-list-is (take n (c .files)), s .0, files) in
+      rw (framing, records, s .1, f .distinct-numbers, o .distinct-numbers, r .distinct-numbers, f .ordered, o .ordered, r .ordered)
+
+  -- and one that passes each is well-formed
+  suffices : tested ≡ true → wellPicked c ≡ true
+  unfolding pickedOf
+  suffices t =
+      let records = all wellRecord (take n (c .files)) in
+      let blanks = all isBlank (drop n (c .files)) in
+      let t₃ = and-left (frame && records && blanks && numbered) orders t in
+      let t₂ = and-left (frame && records && blanks) numbered t₃ in
+      let t₁ = and-left (frame && records) blanks t₂ in
+      let well = well-list (take n (c .files)) (and-right frame records t₁) in
+      let i = inOrder (c .level) inputs in
+      let j = inOrder (suc (c .level)) others in
+      let k = inOrder (suc (suc (c .level))) grands in
+      let order = and-right (frame && records && blanks && numbered) orders t in
+      let x = distinct (numbers inputs) in
+      let y = distinct (numbers others) in
+      let z = distinct (numbers grands) in
+      let number = and-right (frame && records && blanks) numbered t₃ in
+      let f = all (goodFile full) inputs in
+      let g = all (goodFile full) others in
+      let m = all (goodFile full) grands in
+      let goods : (f && (g && (m && true))) ≡ true = sym all-files ∙ well .1 in
+      let a = level-is (c .level) 0 (c .first) inputs (first-run c) (omega arith) (and-left f (g && (m && true)) goods) (and-left x (y && (z && true)) number) (and-left i (j && k) order) in
+      let b = level-is (suc (c .level)) (c .first) (c .first + c .second) others (second-run c) (omega arith) (and-left g (m && true) (and-right f (g && (m && true)) goods))
+      (and-left y (z && true) (and-right x (y && (z && true)) number)) (and-left j k (and-right i (j && k) order)) in
+      let p : suc (suc (c .level)) ≡ c .level + 2 = omega arith in
+      let d : goodLevel full (c .level + 2) grands ≡ true =
+      level-is (c .level + 2) (c .first + c .second) (c .first + c .second + c .grand) grands (grand-run c) (omega arith) (and-left m true (and-right g (m && true) (and-right f (g && (m && true)) goods)))
+      (and-left z true (and-right y (z && true) (and-right x (y && (z && true)) number))) (rw p at (and-right j k (and-right i (j && k) order))) in
+      let room : leb (length inputs + length others + length grands) 256 ≡ true = le-leb (length inputs + length others + length grands) 256 (omega (arith, first-length c q within, second-length c q within, grand-length c q within)) in
+      let s : sum (countsIn c) ≡ n = sum-is c ∙ e in
+      well-says c .1 record {
+        sound = record { room = omega arith; records = rw s (well .0); blanks = rw s (and-right (frame && records) blanks t₂) };
+        good = goodPicked-says full (pickedOf c) .0 (good-is ∙ rw (and-left frame records t₁, a, b, d, room));
+      }
+    where
+      level-is : (l from to : ℕ) (fs : List File) → fs ≡ run from to (c .files) → to ≤ 256 → all (goodFile full) fs ≡ true → distinct (numbers fs) ≡ true → inOrder l fs ≡ true → goodLevel full l fs ≡ true
+      level-is l from to fs r b g d o = rw r (run-good (c .files) q w l from to b (rw r at g) (rw r at d) (rw r at o))
+
+  -- what is asked beside the files, the records, the blank places, the numbers, the order
+  pub well-is : wellPicked c
+      ≡ (framed (c .level) (c .maximum) (c .first) (c .grand) && all wellRecord (take n (c .files)) && all isBlank (drop n (c .files)) && distinctLists (listsIn c)
+      && levelwise inOrder 0 (levelsOf (c .files) (asLevels (c .level) (c .first) (c .second) (c .grand))))
+  well-is = same-test (wellPicked c) tested passes suffices ∙ rw (distinct-is, ordered-is)
+
+-- ---- the code's tests
+
+-- the counts as levels, from level 0 on; from level 1 on
+pub levels-first : (l a b c : ℕ) → l ≡ 0 → asLevels l a b c ≡ a ∷ b ∷ c ∷ 0 ∷ 0 ∷ 0 ∷ 0 ∷ []
+unfolding asLevels
+levels-first zero a b c e = refl
+levels-first (suc l) a b c e = absurd (omega arith)
+
+pub levels-deeper : (l a b c : ℕ) → (l ≡ 0 → ⊥) → asLevels l a b c ≡ 0 ∷ a ∷ b ∷ c ∷ 0 ∷ 0 ∷ 0 ∷ []
+unfolding asLevels
+levels-deeper zero a b c h = absurd (h refl)
+levels-deeper (suc l) a b c h = refl
+
+-- a part lent of an array whose front holds a list
+pub part-lent : {A : Type 0} (d xs : List A) (from to : ℕ) → from ≤ to → to ≤ length xs → take (to - from) (drop from (put d 0 xs)) ≡ slice from to xs
+part-lent d xs from to h k =
+    let n : from + (to - from) ≡ to = omega arith in
+    take-drop from (to - from) (put d 0 xs) ∙ rw (n, put-front d xs) (ap (drop from) (take-append-le to xs (drop (length xs) d) k))
+
+-- the numbers of a run, as they are lent from a column of numbers
+pub column-run : (n from to : ℕ) (files : List FileRecord) (d column : List ℕ) → n ≤ length files → from ≤ to → to ≤ n → column ≡ put d 0 (numbers (run 0 n files))
+    → take (to - from) (drop from column) ≡ numbers (run from to files)
+unfolding run numbers
+column-run n from to files d column q h k e =
+    let number : File → ℕ = λ f. f .number in
+    let fs = map fileOf (take n files) in
+    let size : length (map number fs) ≡ n = length-map fs number ∙ length-map (take n files) fileOf ∙ length-take-le n files q in
+    ap (λ (l : List ℕ). take (to - from) (drop from l)) e ∙ part-lent d (map number fs) from to h (omega arith)
+    ∙ slice-map number from to fs ∙ ap (map number) (slice-map fileOf from to (take n files) ∙ ap (λ (rs : List FileRecord). map fileOf (drop from rs)) (take-take to n files k))
+
+-- three lists, none of which has a number twice: the first has, the second has, neither has
+module _ (files : List FileRecord) (a b c : ℕ) where
+  abbrev lists : List (List File)
+  lists = levelsOf files (a ∷ b ∷ c ∷ [])
+
+  lists-are : lists ≡ run 0 a files ∷ run a (a + b) files ∷ run (a + b) (a + b + c) files ∷ []
+  unfolding levelsOf parts run
+  lists-are = rw (take-drop a b files, drop-drop b a files, take-drop (a + b) c files)
+
+  pub distinct-three : distinctLists lists
+      ≡ (distinct (numbers (run 0 a files)) && (distinct (numbers (run a (a + b) files)) && distinct (numbers (run (a + b) (a + b + c) files))))
+  unfolding distinctLists all
+  distinct-three = ap distinctLists lists-are ∙ rw (and-true (distinct (numbers (run (a + b) (a + b + c) files))))
+
+-- ---- trivial moves
+
+-- a call that asks first for a well-formed picked answer, on one that is not; on one that is
+module _ {A : Type 0} (c : Picked) (rs : model.Picked → List Refusal) (a : model.Picked → A) where
+  abbrev askedOf : model.Picked → Answer A
+  askedOf p = firstOf ((not (goodPicked full p) ⇒ 14) ∷ rs p) (a p)
+
+  pub asked-ill : wellPicked c ≡ false → onPicked c askedOf ≡ refused 14
+  unfolding firstOf _⇒_
+  asked-ill h = onPicked-ill c askedOf (λ e. rw e) h
+
+  pub asked-well : wellPicked c ≡ true → onPicked c askedOf ≡ firstOf (rs (pickedOf c)) (a (pickedOf c))
+  unfolding firstOf _⇒_
+  asked-well h = onPicked-well c askedOf h ∙ rw (goodPicked-says full (pickedOf c) .1 (well-says c .0 h .good))
+
+module _ (c : Picked) where
+  pub trivial-ill : wellPicked c ≡ false → onPicked c (calls.isTrivialMove full) ≡ refused 14
+  unfolding calls.isTrivialMove
+  trivial-ill h = asked-ill c (λ p. []) trivial h
+
+  pub trivial-well : wellPicked c ≡ true → onPicked c (calls.isTrivialMove full) ≡ gives (trivial (pickedOf c))
+  unfolding calls.isTrivialMove firstOf
+  trivial-well h = asked-well c (λ p. []) trivial h
+
+  -- made by hand
+  pub trivial-manual : isManual (causeOf (c .cause)) ≡ true → trivial (pickedOf c) ≡ false
+  unfolding trivial pickedOf
+  trivial-manual e = rw e
+
+  module _ (h : wellPicked c ≡ true) (q : length (c .files) ≡ 256) where
+    -- the maximum file size is in its range
+    pub well-maximum : (1 ≤ c .maximum) × (c .maximum ≤ 4294967296)
+    unfolding badMaximum pickedOf
+    well-maximum =
+        let m = c .maximum in
+        let b = not-false (leb 1 m && leb m (2 ^ 32)) (well-says c .0 h .good .maximum) in
+        (leb-true 1 m (and-left (leb 1 m) (leb m (2 ^ 32)) b), leb-true m (2 ^ 32) (and-right (leb 1 m) (leb m (2 ^ 32)) b))
+
+    -- there is a first input
+    pub well-some : 1 ≤ c .first
+    well-some =
+        let n = eqb-false (length (pickedOf c .first)) 0 (sym (empty-is (pickedOf c .first)) ∙ well-says c .0 h .good .some-input) in
+        positive (c .first) (λ z. n (first-length c q (well-room c h) ∙ z))
+      where
+        positive : (k : ℕ) → (k ≡ 0 → ⊥) → 1 ≤ k
+        positive zero f = absurd (f refl)
+        positive (suc k) f = omega arith
+
+    -- the bytes of the grandparents are within a u64
+    pub grand-bytes : total (pickedOf c .grand) ≡ min (total (run (c .first + c .second) (c .first + c .second + c .grand) (c .files))) 18446744073709551615
+    unfolding pickedOf
+    grand-bytes =
+        let r = well-room c h in
+        let good = level-good (c .level + 2) (pickedOf c .grand) (well-says c .0 h .good .grand) in
+        let b = total-bound (c .first + c .second) (c .first + c .second + c .grand) (c .files) q r (rw (grand-run c) at good) in
+        ap total (grand-run c) ∙ omega arith
+
+    -- one first input, no second, and the bytes of the grandparents decide
+    pub trivial-is : isManual (causeOf (c .cause)) ≡ false → trivial (pickedOf c)
+        ≡ (eqb (c .first) 1 && eqb (c .second) 0 && ltb (min (total (run (c .first + c .second) (c .first + c .second + c .grand) (c .files))) 18446744073709551615) (10 * c .maximum))
+    unfolding trivial pickedOf
+    trivial-is e =
+        let r = well-room c h in
+        rw (e, first-length c q r, empty-is (pickedOf c .second), second-length c q r, grand-bytes)
+
+-- ---- the deletions of the inputs
+
+module _ (c : Picked) (room : ℕ) where
+  abbrev deleting : model.Picked → Answer (List model-edit.Deletion)
+  deleting p = calls.deletionsOf full p room
+
+  pub deletions-ill : wellPicked c ≡ false → onPicked c deleting ≡ refused 14
+  unfolding calls.deletionsOf
+  deletions-ill h = asked-ill c (λ p. (ltb room (length (inputDeletions p)) ⇒ 13) ∷ []) inputDeletions h
+
+  module _ (h : wellPicked c ≡ true) (q : length (c .files) ≡ 256) where
+    -- one for each input
+    pub deletions-length : length (inputDeletions (pickedOf c)) ≡ c .first + c .second
+    unfolding inputDeletions
+    deletions-length =
+        let p = pickedOf c in
+        let r = well-room c h in
+        let at : ℕ → File → model-edit.Deletion = λ l f. record { level = l; number = f .number } in
+        omega (
+          arith,
+          length-append (map (at (p .level)) (p .first)) (map (at (suc (p .level))) (p .second)),
+          length-map (p .first) (at (p .level)),
+          length-map (p .second) (at (suc (p .level))),
+          first-length c q r,
+          second-length c q r,
+        )
+
+    passing : onPicked c deleting ≡ firstOf ((ltb room (length (inputDeletions (pickedOf c))) ⇒ 13) ∷ []) (inputDeletions (pickedOf c))
+    unfolding calls.deletionsOf
+    passing = asked-well c (λ p. (ltb room (length (inputDeletions p)) ⇒ 13) ∷ []) inputDeletions h
+
+    -- more than there is room for
+    pub deletions-short : room < c .first + c .second → onPicked c deleting ≡ refused 13
+    unfolding firstOf _⇒_
+    deletions-short k = passing ∙ rw (lt-ltb room (length (inputDeletions (pickedOf c))) (omega (arith, deletions-length)))
+
+    pub deletions-done : c .first + c .second ≤ room → onPicked c deleting ≡ gives (inputDeletions (pickedOf c))
+    unfolding firstOf _⇒_
+    deletions-done k = passing ∙ rw (le-ltb room (length (inputDeletions (pickedOf c))) (omega (arith, deletions-length)))
+
+-- as records: the numbers of the first inputs at the level, then those of the second inputs one level deeper
+pub deletion-records : (c : Picked) → map deletionRecord (inputDeletions (pickedOf c))
+    ≡ map (deletionAt (c .level)) (numbers (run 0 (c .first) (c .files))) ++ map (deletionAt (c .level + 1)) (numbers (run (c .first) (c .first + c .second) (c .files)))
+unfolding inputDeletions pickedOf deletionRecord deletionAt numbers
+deletion-records c =
+    let p = pickedOf c in
+    let at : ℕ → File → model-edit.Deletion = λ l f. record { level = l; number = f .number } in
+    let number : File → ℕ = λ f. f .number in
+    let named : (l : ℕ) (fs : List File) → map deletionRecord (map (at l) fs) ≡ map (deletionAt l) (map number fs) = λ l fs. map-map deletionRecord (at l) fs ∙ sym (map-map (deletionAt l) number fs) in
+    map-append deletionRecord (map (at (c .level)) (p .first)) (map (at (suc (c .level))) (p .second))
+    ∙ rw (named (c .level) (p .first), named (suc (c .level)) (p .second), first-run c, second-run c, add-one)
+
+-- the deletions of a run, one for each file
+pub named-length : (l from to : ℕ) (files : List FileRecord) → to ≤ length files → length (map (deletionAt l) (numbers (run from to files))) ≡ to - from
+unfolding numbers run
+named-length l from to files h =
+    let number : File → ℕ = λ f. f .number in
+    let fs = map fileOf (slice from to files) in
+    length-map (map number fs) (deletionAt l) ∙ length-map fs number ∙ length-view fileOf from to files h
+
+-- a list laid over another: all up to its end
+put-upto : {A : Type 0} (d : List A) (at : ℕ) (s : List A) → at ≤ length d → take (at + length s) (put d at s) ≡ take at d ++ s
+unfolding put
+put-upto d at s h =
+    let k : length (take at d ++ s) ≡ at + length s = length-append (take at d) s ∙ ap (λ (n : ℕ). n + length s) (length-take-le at d h) in
+    rw (← append-assoc (take at d) s (drop (at + length s) d)) (take-at (take at d ++ s) (drop (at + length s) d) (at + length s) k)
+
+-- the records of deletions stand for them
+named-back : (ds : List model-edit.Deletion) → map deletionOf (map deletionRecord ds) ≡ ds
+unfolding deletionOf deletionRecord
+named-back ds = map-map deletionOf deletionRecord ds ∙ map-same ds
+
+-- an edit with deletions after its own, within its room: its deletions are followed by those, and nothing else of it changes
+module _ (e : Edit) (q : length (e .deletions) ≡ 256) (ds : List model-edit.Deletion) (h : e .«deletion_count» + length ds ≤ 256) where
+  pub deletions-follow : editOf (withDeletions e (map deletionRecord ds)) .deletions ≡ editOf e .deletions ++ ds
+  unfolding editOf withDeletions entries
+  deletions-follow =
+      let n = e .«deletion_count» in
+      let rs = map deletionRecord ds in
+      let size : length rs ≡ length ds = length-map ds deletionRecord in
+      let k : n + length rs - 256 ≡ 0 = omega arith in
+      let z : n - 256 ≡ 0 = omega arith in
+      let front : take (n + length rs) (put (e .deletions) n rs) ≡ take n (e .deletions) ++ rs = put-upto (e .deletions) n rs (omega arith) in
+      simp (k, z, append-nil) (rw front (map-append deletionOf (take n (e .deletions)) rs ∙ ap (λ (xs : List model-edit.Deletion). map deletionOf (take n (e .deletions)) ++ xs) (named-back ds)))
+
+-- an edit that took the deletions of a picked answer's inputs: its own deletions, then exactly both input lists in order; nothing else of it changed
+pub inputs-added : (c : Picked) (e : Edit) → length (c .files) ≡ 256 → length (e .deletions) ≡ 256 → wellPicked c ≡ true → c .first + c .second ≤ roomIn e
+    → editOf (deletedBy e (onPicked c (λ p. calls.deletionsOf full p (roomIn e))) .edit)
+    ≡ record { pointers = editOf e .pointers; deletions = editOf e .deletions ++ inputDeletions (pickedOf c); additions = editOf e .additions; log = editOf e .log }
+unfolding deletedBy roomIn full editOf withDeletions
+inputs-added c e q l h k =
+    let ds = inputDeletions (pickedOf c) in
+    let room : e .«deletion_count» + length ds ≤ 256 = omega (arith, deletions-length c (roomIn e) h q, well-some c h q) in
+    let f = deletions-follow e l ds room in
+    rw (deletions-done c (256 - e .«deletion_count») h q k) (λ i. record { pointers = editOf e .pointers; deletions = f i; additions = editOf e .additions; log = editOf e .log })
+
+-- ---- the deletions of the inputs in two columns
+
+-- one number for each item
+map-one : {A B : Type 0} (b : B) (xs : List A) → map (λ x. b) xs ≡ replicate (length xs) b
+map-one b [] = refl
+map-one b (x ∷ xs) = ap (λ (r : List _). b ∷ r) (map-one b xs)
+
+-- their levels: the level for each first input, one level deeper for each second
+pub levels-named : (c : Picked) → length (c .files) ≡ 256 → wellPicked c ≡ true
+    → map (λ (d : model-edit.Deletion). d .level) (inputDeletions (pickedOf c)) ≡ replicate (c .first) (c .level) ++ replicate (c .second) (c .level + 1)
+unfolding inputDeletions pickedOf
+levels-named c q h =
+    let p = pickedOf c in
+    let r = well-room c h in
+    let at : ℕ → File → model-edit.Deletion = λ l f. record { level = l; number = f .number } in
+    let level : model-edit.Deletion → ℕ = λ d. d .level in
+    map-append level (map (at (c .level)) (p .first)) (map (at (suc (c .level))) (p .second))
+    ∙ rw (map-map level (at (c .level)) (p .first), map-map level (at (suc (c .level))) (p .second), map-one (c .level) (p .first), map-one (suc (c .level)) (p .second), first-length c q r, second-length c q r, add-one)
+
+-- their numbers: those of the inputs, as they stand
+pub numbers-named : (c : Picked) → length (c .files) ≡ 256 → wellPicked c ≡ true
+    → map (λ (d : model-edit.Deletion). d .number) (inputDeletions (pickedOf c)) ≡ numbers (run 0 (c .first + c .second) (c .files))
+unfolding inputDeletions pickedOf numbers run
+numbers-named c q h =
+    let p = pickedOf c in
+    let r = well-room c h in
+    let at : ℕ → File → model-edit.Deletion = λ l f. record { level = l; number = f .number } in
+    let number : model-edit.Deletion → ℕ = λ d. d .number in
+    let own : File → ℕ = λ f. f .number in
+    let a = slice 0 (c .first) (c .files) in
+    let b = slice (c .first) (c .first + c .second) (c .files) in
+    map-append number (map (at (c .level)) (p .first)) (map (at (suc (c .level))) (p .second))
+    ∙ rw (map-map number (at (c .level)) (p .first), map-map number (at (suc (c .level))) (p .second), first-run c, second-run c)
+    (sym (map-append own (map fileOf a) (map fileOf b)) ∙ ap (map own) (sym (map-append fileOf a b)) ∙ ap (λ (rs : List FileRecord). map own (map fileOf rs)) (sym (run-join 0 (c .first) (c .first + c .second) (c .files) (omega arith) (omega arith) (omega arith))))
+
+module _ (c : Picked) (levels numbers : List ℕ) where
+  abbrev room : ℕ
+  room = min (length levels) (length numbers)
+
+  -- a refusal leaves both columns as they were
+  pub names-refused : (n : ℕ) → naming c room ≡ refused n → Names c levels numbers (counted.Refused n) levels numbers
+  unfolding countedOf filling onAnswer lent
+  names-refused n e = record { answer = rw e; levels-after = rw e; numbers-after = rw e }
+
+  -- else they are filled from the front
+  pub names-done : length (c .files) ≡ 256 → wellPicked c ≡ true → c .first + c .second ≤ room → (levels′ numbers′ : List ℕ)
+      → levels′ ≡ put levels 0 (replicate (c .first) (c .level) ++ replicate (c .second) (c .level + 1)) → numbers′ ≡ put numbers 0 (file.numbers (run 0 (c .first + c .second) (c .files)))
+      → Names c levels numbers (counted.Filled (c .first + c .second)) levels′ numbers′
+  unfolding countedOf filling onAnswer lent naming
+  names-done q h k levels′ numbers′ l n =
+      let e = deletions-done c room h q k in
+      let ds = inputDeletions (pickedOf c) in
+      record {
+        answer = rw e (ap gives (sym (deletions-length c room h q)));
+        levels-after = rw e (l ∙ ap (put levels 0) (sym (levels-named c q h)) ∙ put-front levels (map (λ (d : model-edit.Deletion). d .level) ds));
+        numbers-after = rw e (n ∙ ap (put numbers 0) (sym (numbers-named c q h)) ∙ put-front numbers (map (λ (d : model-edit.Deletion). d .number) ds));
+      }
+
+-- one answer has one form
+counted-one : (s t : Counted) → countedOf s ≡ countedOf t → s ≡ t
+unfolding countedOf
+counted-one (counted.Filled n) (counted.Filled m) e = let z : n ≡ m = cc in ap counted.Filled z
+counted-one (counted.Filled n) (counted.Refused m) e = let z : true ≡ false = cc in clash refl z
+counted-one (counted.Refused n) (counted.Filled m) e = let z : true ≡ false = cc in clash refl z
+counted-one (counted.Refused n) (counted.Refused m) e = let z : n ≡ m = cc in ap counted.Refused z
+
+-- any two outcomes of a call that names the inputs in lent columns are one
+pub names-one : (c : Picked) (levels numbers : List ℕ) (s t : Counted) (l l′ n n′ : List ℕ) → Names c levels numbers s l n → Names c levels numbers t l′ n′ → (s ≡ t) × (l ≡ l′) × (n ≡ n′)
+names-one c levels numbers s t l l′ n n′ p q =
+    (counted-one s t (p .answer ∙ sym (q .answer)), p .levels-after ∙ sym (q .levels-after), p .numbers-after ∙ sym (q .numbers-after))

@@ -1,0 +1,166 @@
+-- Laws of the search for the file to start with: turn by turn, and which file it finds. Assumes nothing.
+use Prim.Native.Nat.{ℕ, _+_, _-_, _≤_, _<_, min}
+use mathlib.Core.Path.{_≡_, refl, sym, ap, _∙_}
+use mathlib.Core.Bool.{Bool, true, false}
+use mathlib.Core.List.{List, [], _∷_, map, List·Memᴰ as In, List·Memᴰ·head as here}
+use mathlib.Core.Option.{Option, none, some, orElse, Option·map}
+use native.Mathlib.Omega.{arith}
+use lib.ListN.{length, getD}
+use Rattle.lemmas.specs.Order.{clash}
+use Rattle.lemmas.specs.Lists.{find, upFrom, isEmpty}
+use Rattle.lemmas.specs.ListLaws.{find-some, upFrom-in}
+use Rattle.lemmas.specs.Loops.{find-here, find-later}
+use Rattle.lemmas.specs.Maps.{find-map}
+use Rattle.lemmas.specs.Slices.{getD-map}
+use Rattle.lemmas.specs.UpFrom.{upFrom-turn, upFrom-end}
+use Rattle.model.specs.Key.{Key, before}
+use Rattle.model.specs.File.{File, level, pointer}
+use Rattle.model.specs.Pick.{firstFile, startFile}
+use Rattle.keys.specs.Key.{keyOf}
+use Rattle.records.specs.declared.FileRecord.{FileRecord}
+use Rattle.records.specs.Record.{fileOf}
+use Rattle.records.specs.RecordLaws as record-laws
+use Rattle.records.specs.Run.{run}
+use Rattle.store.specs.declared.Pointer.{Pointer}
+use Rattle.store.specs.declared.Store.{Store}
+use Rattle.store.specs.Store.{pointerOf, stateOf, wellStore}
+use Rattle.store.specs.StoreLaws.{past}
+use Rattle.ranges.specs.Ranges.{fileAt, startAt, endAt}
+use Rattle.ranges.specs.PlacesLaws.{all-places}
+use Rattle.ranges.specs.CallsLaws.{level-run, level-ends, files-room}
+use Rattle.picks.specs.Picks.{firstPlace, startPlace, startIn}
+
+-- ---- the search, turn by turn
+module _ (i to : ℕ) (files : List FileRecord) where
+  -- the places from i on
+  abbrev pub placesFrom : List ℕ
+  placesFrom = upFrom i (min to (length files) - i)
+
+-- whether a file's largest key is after the key
+abbrev pub isAfter : Key → List FileRecord → ℕ → Bool
+isAfter k files i = before k (fileAt files i .largest)
+
+module _ (k : Key) (i to : ℕ) (files : List FileRecord) where
+  -- the file at i is after the key
+  pub after-here : i < to → to ≤ length files → before k (keyOf (getD files i record-laws.past .largest)) ≡ true → find (isAfter k files) (placesFrom i to files) ≡ some i
+  unfolding fileAt fileOf
+  after-here h g t = find-here (isAfter k files) (placesFrom i to files) (placesFrom (i + 1) to files) i (upFrom-turn i (min to (length files)) (omega arith)) t
+
+  -- it is not
+  pub after-later : i < to → to ≤ length files → before k (keyOf (getD files i record-laws.past .largest)) ≡ false
+      → find (isAfter k files) (placesFrom i to files) ≡ find (isAfter k files) (placesFrom (i + 1) to files)
+  unfolding fileAt fileOf
+  after-later h g t = find-later (isAfter k files) (placesFrom i to files) (placesFrom (i + 1) to files) i (upFrom-turn i (min to (length files)) (omega arith)) t
+
+  -- none is left
+  pub after-none : to ≤ i → find (isAfter k files) (placesFrom i to files) ≡ none
+  unfolding find
+  after-none h = rw (upFrom-end i (min to (length files)) (omega arith))
+
+-- the first place of a run that has one
+first-is : (from to : ℕ) (files : List FileRecord) → from < to → to ≤ length files → firstPlace (placesFrom from to files) ≡ some from
+unfolding firstPlace
+first-is from to files h g = rw (upFrom-turn from (min to (length files)) (omega arith))
+
+module _ (p : Pointer) (from to : ℕ) (files : List FileRecord) where
+  -- no files
+  pub start-none : to ≤ from → startPlace (pointerOf p) from to files ≡ none
+  unfolding startPlace firstPlace find orElse
+  start-none h = go (pointerOf p)
+    where
+      go : (o : Option Key) → startPlace o from to files ≡ none
+      go none = rw (upFrom-end from (min to (length files)) (omega arith))
+      go (some k) = rw (upFrom-end from (min to (length files)) (omega arith))
+
+  -- no pointer: the first file
+  pub start-unset : p .set ≡ false → from < to → to ≤ length files → startPlace (pointerOf p) from to files ≡ some from
+  unfolding startPlace pointerOf
+  start-unset e h g = rw e (first-is from to files h g)
+
+  -- one is after the pointer
+  pub start-after : (i : ℕ) → p .set ≡ true → find (isAfter (keyOf (p .key)) files) (placesFrom from to files) ≡ some i → startPlace (pointerOf p) from to files ≡ some i
+  unfolding startPlace pointerOf orElse
+  start-after i e f = rw (e, f)
+
+  -- none is: the first file
+  pub start-wraps : p .set ≡ true → from < to → to ≤ length files → find (isAfter (keyOf (p .key)) files) (placesFrom from to files) ≡ none → startPlace (pointerOf p) from to files ≡ some from
+  unfolding startPlace pointerOf orElse
+  start-wraps e h g f = rw (e, f) (first-is from to files h g)
+
+-- ---- what it finds
+-- the file at the first place is the first file
+first-file : (files : List FileRecord) (ps : List ℕ) → Option·map (fileAt files) (firstPlace ps) ≡ firstFile (map (fileAt files) ps)
+unfolding firstPlace firstFile
+first-file files [] = refl
+first-file files (i ∷ ps) = refl
+
+-- the file at the place is the file to start with
+start-is : (o : Option Key) (from to : ℕ) (files : List FileRecord) → Option·map (fileAt files) (startPlace o from to files) ≡ startFile o (run from to files)
+unfolding startPlace startFile orElse
+start-is none from to files = first-file files (placesFrom from to files) ∙ ap firstFile (all-places (λ f. true) from to files)
+start-is (some k) from to files =
+    let ps = placesFrom from to files in
+    go (find (isAfter k files) ps) (firstPlace ps)
+    ∙ ap (λ (x : Option File). orElse x (Option·map (fileAt files) (firstPlace ps))) (sym (find-map (fileAt files) (λ f. before k (f .largest)) ps))
+    ∙ ap (orElse (find (λ f. before k (f .largest)) (map (fileAt files) ps))) (first-file files ps)
+    ∙ ap (λ (fs : List File). orElse (find (λ f. before k (f .largest)) fs) (firstFile fs)) (all-places (λ f. true) from to files)
+  where
+    go : (a b : Option ℕ) → Option·map (fileAt files) (orElse a b) ≡ orElse (Option·map (fileAt files) a) (Option·map (fileAt files) b)
+    go none b = refl
+    go (some i) b = refl
+
+-- the place is one of the run's
+start-among : (o : Option Key) (from to : ℕ) (files : List FileRecord) (i : ℕ) → to ≤ length files → startPlace o from to files ≡ some i → (from ≤ i) × (i < to)
+unfolding startPlace firstPlace orElse
+start-among o from to files i g e =
+    let b = upFrom-in from (min to (length files) - from) i .0 (among o e) in
+    (b .0, omega arith)
+  where
+    first : (ps : List ℕ) → firstPlace ps ≡ some i → In i ps
+    first [] z = let w : true ≡ false = cc in clash refl w
+    first (j ∷ ps) z = let q : i ≡ j = cc in here q
+
+    either : (k : Key) (a : Option ℕ) → find (isAfter k files) (placesFrom from to files) ≡ a → orElse a (firstPlace (placesFrom from to files)) ≡ some i → In i (placesFrom from to files)
+    either k none f z = first (placesFrom from to files) z
+    either k (some j) f z = let q : j ≡ i = cc in find-some (isAfter k files) (placesFrom from to files) i (f ∙ ap some q) .1
+
+    among : (o : Option Key) → startPlace o from to files ≡ some i → In i (placesFrom from to files)
+    among none z = first (placesFrom from to files) z
+    among (some k) z = either k (find (isAfter k files) (placesFrom from to files)) refl z
+
+-- a list with no file to start with has no files
+no-start : (o : Option Key) (fs : List File) → startFile o fs ≡ none → isEmpty fs ≡ true
+unfolding startFile firstFile isEmpty orElse
+no-start o [] e = refl
+no-start none (f ∷ fs) e = let w : true ≡ false = cc in clash refl w
+no-start (some k) (f ∷ fs) e = go (find (λ g. before k (g .largest)) (f ∷ fs)) e
+  where
+    go : (x : Option File) → orElse x (some f) ≡ none → false ≡ true
+    go none z = let w : true ≡ false = cc in clash refl w
+    go (some g) z = let w : true ≡ false = cc in clash refl w
+
+-- ---- at a level of a store
+module _ (s : Store) (n : ℕ) (h : wellStore s ≡ true) (q : length (s .files) ≡ 256) (c : n < length (s .counts)) (p : n < length (s .pointers)) where
+  -- the model's file
+  start-file : Option·map (fileAt (s .files)) (startIn s n) ≡ startFile (pointer (stateOf s) n) (level (stateOf s) n)
+  unfolding startIn pointer stateOf
+  start-file =
+      start-is (pointerOf (getD (s .pointers) n past)) (startAt s n) (endAt s n) (s .files)
+      ∙ ap (λ (fs : List File). startFile (pointerOf (getD (s .pointers) n past)) fs) (sym (level-run s n c))
+      ∙ ap (λ (o : Option Key). startFile o (level (stateOf s) n)) (sym (getD-map pointerOf (s .pointers) n past none p))
+
+  -- found at a place
+  pub start-found : (i : ℕ) → startIn s n ≡ some i → startFile (pointer (stateOf s) n) (level (stateOf s) n) ≡ some (fileAt (s .files) i)
+  start-found i e = sym start-file ∙ ap (Option·map (fileAt (s .files))) e
+
+  -- which is one of the level's
+  pub start-within : (i : ℕ) → startIn s n ≡ some i → (startAt s n ≤ i) × (i < endAt s n)
+  unfolding startIn
+  start-within i e =
+      let room = files-room s n h in
+      let ends = level-ends s n in
+      start-among (pointerOf (getD (s .pointers) n past)) (startAt s n) (endAt s n) (s .files) i (omega arith) e
+
+  -- nothing found
+  pub start-nothing : startIn s n ≡ none → isEmpty (level (stateOf s) n) ≡ true
+  start-nothing e = no-start (pointer (stateOf s) n) (level (stateOf s) n) (sym start-file ∙ ap (Option·map (fileAt (s .files))) e)

@@ -1,0 +1,5 @@
+pub mod Ranges
+pub mod RangesLaws
+pub mod WideningLaws
+pub mod PlacesLaws
+pub mod CallsLaws

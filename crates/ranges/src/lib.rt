@@ -1,0 +1,358 @@
+// Ranges of user keys: which files of a run overlap one, how many bytes they have, the least widening at level 0.
+ghost use mathlib.Core.Path.{_≡_};
+ghost use mathlib.Core.Bool.{true, cond};
+ghost use Prim.Native.Nat.{_+_, _≤_, _<_, min};
+ghost use Rattle.lemmas.specs.Lists.{any, keep, all};
+ghost use Rattle.model.specs.Calls as calls;
+ghost use Rattle.model.specs.File.{full, total};
+ghost use Rattle.model.specs.Range as model;
+ghost use Rattle.model.specs.Key.{user};
+ghost use Rattle.keys.specs.Key.{keyOf, userOf};
+ghost use Rattle.records.specs.Record.{fileOf, soundRecord};
+ghost use Rattle.records.specs.Run.{run, endsOf};
+ghost use Rattle.store.specs.Store.{onStore, wellStore};
+ghost use Rattle.answers.specs.Outcome.{toldOf};
+ghost use Rattle.lists.specs.List.{listOf, listed};
+ghost use Rattle.ranges.specs.Ranges.{spanOf, spanRecord, listedAt, placesOf, joinedPlaces, Placed, recordsAt, filesAt, overlappingAt, overlappingIn};
+use answers::Outcome;
+use answers::Refusal;
+use answers::Told;
+use keys::Key;
+use keys::UserKey;
+use lists::FileList;
+use lists::Listed;
+use records::Ends;
+use records::FileRecord;
+use records::Level;
+use store::Store;
+
+// A range of user keys; start after stop is allowed.
+pub struct Span {
+    pub start: UserKey,
+    pub stop: UserKey,
+}
+
+// Places of files in an array, zeros past them.
+pub struct Places {
+    pub at: [usize; 256],
+    pub count: usize,
+}
+
+// The range of two internal keys.
+pub fn between(a: Key, b: Key) -> Span
+    ensures { λ r. ⌜ r ≡ spanRecord (model.between (keyOf a) (keyOf b)) ⌝ }
+{
+    let start = keys::user_key(a);
+    let stop = keys::user_key(b);
+    Span {
+        start: start,
+        stop: stop,
+    }
+}
+
+// Whether a file overlaps a range: its largest user key is not below the start and its smallest not above the end.
+pub fn overlaps(span: Span, f: FileRecord) -> bool
+    ensures { λ r. ⌜ r ≡ model.overlaps (spanOf span) (fileOf f) ⌝ }
+{
+    let start = span.start;
+    let high = f.largest;
+    if keys::user_is_after(start, high) {
+        return false;
+    }
+    let stop = span.stop;
+    let low = f.smallest;
+    !keys::user_is_before(stop, low)
+}
+
+// Whether some file of a run overlaps a range.
+pub fn has_overlap(files: [FileRecord; 256], from: usize, to: usize, span: Span) -> bool
+    ensures { λ r. ⌜ r ≡ any (model.overlaps (spanOf span)) (run from to files) ⌝ }
+{
+    let end = records::within(to);
+    let mut i = from;
+    while i < end {
+        if overlaps(span, files[i]) {
+            return true;
+        }
+        i += 1;
+    }
+    false
+}
+
+// The sum of the sizes of the files of a run that overlap a range, or the largest u64 where that is less.
+pub fn overlapping_bytes(files: [FileRecord; 256], from: usize, to: usize, span: Span) -> u64
+    ensures { λ r. ⌜ r ≡ min (total (keep (model.overlaps (spanOf span)) (run from to files))) 18446744073709551615 ⌝ }
+{
+    let end = records::within(to);
+    let mut s: u64 = 0;
+    let mut i = from;
+    while i < end {
+        let f = files[i];
+        if overlaps(span, f) {
+            if 18446744073709551615 - s < f.size {
+                return 18446744073709551615;
+            }
+            s += f.size;
+        }
+        i += 1;
+    }
+    s
+}
+
+// Whether a file overlaps a range and does not lie inside.
+fn sticks_out(span: Span, f: FileRecord) -> bool
+    ensures { λ r. ⌜ r ≡ model.sticksOut (spanOf span) (fileOf f) ⌝ }
+{
+    if !overlaps(span, f) {
+        return false;
+    }
+    let start = span.start;
+    let low = f.smallest;
+    if keys::user_is_after(start, low) {
+        return true;
+    }
+    let stop = span.stop;
+    let high = f.largest;
+    keys::user_is_before(stop, high)
+}
+
+// The user key of an internal key where it is to be taken, else the one that is there.
+fn user_if(taken: bool, k: Key, u: UserKey) -> UserKey
+    ensures { λ r. ⌜ userOf r ≡ cond taken (user (keyOf k)) (userOf u) ⌝ }
+{
+    if taken {
+        return keys::user_key(k);
+    }
+    u
+}
+
+// The range and the file: the earlier start and the later end.
+fn stretch(span: Span, f: FileRecord) -> Span
+    ensures { λ r. ⌜ spanOf r ≡ model.stretch (spanOf span) (fileOf f) ⌝ }
+{
+    let a = span.start;
+    let low = f.smallest;
+    let before = keys::user_is_after(a, low);
+    let start = user_if(before, low, a);
+    let b = span.stop;
+    let high = f.largest;
+    let after = keys::user_is_before(b, high);
+    let stop = user_if(after, high, b);
+    Span {
+        start: start,
+        stop: stop,
+    }
+}
+
+// The least widening of a range such that every file of the run overlapping it lies inside: passes that stretch over files sticking out, until none does.
+fn widened(files: [FileRecord; 256], from: usize, end: usize, span: Span) -> Span
+    requires { ⌜ end ≤ 256 ⌝ }
+    ensures { λ r. ⌜ spanOf r ≡ model.widen (run from end files) (spanOf span) ⌝ }
+{
+    let mut wide = span;
+    let mut settled = false;
+    while !settled {
+        settled = true;
+        let mut i = from;
+        while i < end {
+            let f = files[i];
+            if sticks_out(wide, f) {
+                wide = stretch(wide, f);
+                settled = false;
+            }
+            i += 1;
+        }
+    }
+    wide
+}
+
+// The places of the files of a level that overlap a range, at level 0 its least widening.
+pub fn overlapping(
+    files: [FileRecord; 256],
+    level: usize,
+    from: usize,
+    to: usize,
+    span: Span,
+) -> Places
+    ensures { λ r. ⌜ r ≡ placesOf (overlappingAt level from to files (spanOf span)) ⌝ }
+{
+    let end = records::within(to);
+    let mut wide = span;
+    if level == 0 {
+        wide = widened(files, from, end, span);
+    }
+    let mut at = [0usize; 256];
+    let mut n: usize = 0;
+    let mut i = from;
+    while i < end {
+        if overlaps(wide, files[i]) {
+            at[n] = i;
+            n += 1;
+        }
+        i += 1;
+    }
+    Places { at: at, count: n }
+}
+
+// The places of the files of a level of a store that overlap a range. For callers of this repository, who have tested the store and the level.
+pub fn overlapping_in(s: Store, level: usize, span: Span) -> Places
+    requires { ⌜ (wellStore s ≡ true) × (level < 7) ⌝ }
+    ensures { λ r. ⌜ r ≡ placesOf (overlappingIn s level (spanOf span)) ⌝ }
+{
+    let counts = s.counts;
+    let from = levels::start_of(counts, level);
+    let to = from + counts[level];
+    let files = s.files;
+    overlapping(files, level, from, to, span)
+}
+
+// The places of both, the first ones first. For callers of this repository whose places together are within the room.
+pub fn joined(first: Places, second: Places) -> Places
+    requires { ⌜ first .count + second .count ≤ 256 ⌝ }
+    ensures { λ r. ⌜ r ≡ joinedPlaces first second ⌝ }
+{
+    let n = second.count;
+    let b = second.at;
+    let mut at = first.at;
+    let mut k = first.count;
+    let mut j: usize = 0;
+    while j < n {
+        at[k] = b[j];
+        k += 1;
+        j += 1;
+    }
+    Places { at: at, count: k }
+}
+
+// The sum of the sizes of the files at places, or the largest u64 where that is less. For callers of this repository whose places are within the room.
+pub fn total_at(files: [FileRecord; 256], places: Places) -> u64
+    requires { ⌜ Placed 256 places ⌝ }
+    ensures { λ r. ⌜ r ≡ min (total (filesAt files (listedAt places))) 18446744073709551615 ⌝ }
+{
+    let at = places.at;
+    let count = places.count;
+    let mut s: u64 = 0;
+    let mut k: usize = 0;
+    while k < count {
+        let i = at[k];
+        let x = files[i].size;
+        if 18446744073709551615 - s < x {
+            return 18446744073709551615;
+        }
+        s += x;
+        k += 1;
+    }
+    s
+}
+
+// The smallest and the largest key of the files at places; of keys equal in order those of the first file. For callers of this repository whose places are
+// within the room.
+pub fn ends_at(files: [FileRecord; 256], places: Places) -> Ends
+    requires { ⌜ Placed 256 places ⌝ }
+    ensures { λ r. ⌜ r ≡ endsOf (filesAt files (listedAt places)) ⌝ }
+{
+    let at = places.at;
+    let count = places.count;
+    if count < 1 {
+        return Ends {
+            low: keys::blank_key(),
+            high: keys::blank_key(),
+        };
+    }
+    let first = files[at[0]];
+    let mut low = first.smallest;
+    let mut high = first.largest;
+    let mut k: usize = 1;
+    while k < count {
+        let f = files[at[k]];
+        let a = f.smallest;
+        if keys::is_before(a, low) {
+            low = a;
+        }
+        let b = f.largest;
+        if keys::is_before(high, b) {
+            high = b;
+        }
+        k += 1;
+    }
+    Ends {
+        low: keys::kept(low),
+        high: keys::kept(high),
+    }
+}
+
+// The records at places as a list. For callers of this repository, whose records are those of files.
+pub fn list_at(files: [FileRecord; 256], places: Places) -> FileList
+    requires { ⌜ Placed 256 places × (all soundRecord (recordsAt files (listedAt places)) ≡ true) ⌝ }
+    ensures { λ r. ⌜ r ≡ listOf (filesAt files (listedAt places)) ⌝ }
+{
+    let at = places.at;
+    let count = places.count;
+    let mut out = records::blanks();
+    let mut k: usize = 0;
+    while k < count {
+        let f = files[at[k]];
+        out[k] = f;
+        k += 1;
+    }
+    FileList {
+        files: out,
+        count: count,
+    }
+}
+
+// Whether some file of a level overlaps a range of user keys, at level 0 by the range itself too.
+pub fn overlap_in_level(s: Store, level: usize, start: UserKey, stop: UserKey) -> Told
+    ensures { λ r. ⌜ toldOf r ≡ onStore s (λ t. calls.overlapInLevel full t level (userOf start) (userOf stop)) ⌝ }
+{
+    if !store::is_well_formed(s) {
+        return Told::Refused(Refusal::FORM);
+    }
+    if Level::COUNT <= level {
+        return Told::Refused(Refusal::LEVEL);
+    }
+    if !keys::is_good_user(start) {
+        return Told::Refused(Refusal::KEY);
+    }
+    if !keys::is_good_user(stop) {
+        return Told::Refused(Refusal::KEY);
+    }
+    let counts = s.counts;
+    let from = levels::start_of(counts, level);
+    let to = from + counts[level];
+    let files = s.files;
+    let span = Span {
+        start: start,
+        stop: stop,
+    };
+    if has_overlap(files, from, to, span) {
+        return Told::Yes;
+    }
+    Told::No
+}
+
+// The files of a level that overlap the range of two internal keys, at level 0 its least widening, in level order.
+pub fn overlapping_inputs(s: Store, level: usize, start: Key, stop: Key) -> Listed
+    ensures { λ r. ⌜ r ≡ listed (onStore s (λ t. calls.overlappingInputs full t level (keyOf start) (keyOf stop) (full .room))) ⌝ }
+{
+    if !store::is_well_formed(s) {
+        return lists::nothing(Refusal::FORM);
+    }
+    if Level::COUNT <= level {
+        return lists::nothing(Refusal::LEVEL);
+    }
+    if !keys::is_good(start) {
+        return lists::nothing(Refusal::KEY);
+    }
+    if !keys::is_good(stop) {
+        return lists::nothing(Refusal::KEY);
+    }
+    let span = between(start, stop);
+    let places = overlapping_in(s, level, span);
+    let files = s.files;
+    let outcome = Outcome::Done;
+    Listed {
+        outcome: outcome,
+        list: list_at(files, places),
+    }
+}
