@@ -1,0 +1,314 @@
+-- Laws of the cutter: the grandparents as runs of places, a count from the place down, the files that a key passes, and what a step answers. Assumes nothing.
+use Prim.Native.Nat.{ℕ, suc, _+_, _-_, _*_, _^_, _≤_, _<_}
+use mathlib.Core.Path.{_≡_, refl, sym, ap, _∙_}
+use mathlib.Core.Bool.{Bool, true, false, not, _&&_, _||_}
+use mathlib.Core.List.{List, [], _∷_, map}
+use native.Mathlib.Omega.{arith}
+use native.Mathlib.Nat.{zero-add, add-zero}
+use lib.Dec.{eqb, leb}
+use borrow.Author.Tests.{le-leb, leb-true, eqb-true, eq-eqb, ne-eqb}
+use lib.ListN.{length, take, drop}
+use lib.Seq.{slice, drop-drop, take-take}
+use Rattle.lemmas.specs.Order.{clash}
+use Rattle.lemmas.specs.Lists.{any, sum, upFrom}
+use Rattle.lemmas.specs.ListLaws.{and-left, and-right, upFrom-in, upFrom-any}
+use Rattle.lemmas.specs.UpFrom.{upFrom-snoc}
+use Rattle.lemmas.specs.Maps.{any-same, any-append}
+use Rattle.lemmas.specs.Merge.{all-take, all-drop}
+use Rattle.lemmas.specs.Slices.{take-drop, take-map, drop-map, sum-take}
+use Rattle.model.specs.Answer.{Answer, gives, refused, _⇒_, firstOf, onAnswer}
+use Rattle.model.specs.Key as model-key
+use Rattle.model.specs.Key.{before, goodKey}
+use Rattle.model.specs.File.{File, full, total, goodFile}
+use Rattle.model.specs.Pick.{goodPicked}
+use Rattle.model.specs.PickedLaws.{goodPicked-says, cutter-keeps}
+use Rattle.model.specs.Question as model
+use Rattle.model.specs.Question.{passed, cutStep}
+use Rattle.model.specs.Calls as calls
+use Rattle.model.specs.Calls.{counts-up-to, goodCutter}
+use Rattle.answers.specs.declared.Outcome.the-variants.{Done, Refused}
+use Rattle.answers.specs.declared.Told.{Told}
+use Rattle.answers.specs.declared.Told.the-variants as told
+use Rattle.answers.specs.Outcome.{outcomeOf, toldOf}
+use Rattle.keys.specs.Key.{keyOf}
+use Rattle.keys.specs.declared.Key.{Key}
+use Rattle.records.specs.Record.{fileOf}
+use Rattle.records.specs.RecordLaws.{total-bound}
+use Rattle.records.specs.Run.{run}
+use Rattle.records.specs.declared.FileRecord.{FileRecord}
+use Rattle.picked.specs.declared.Picked.{Picked}
+use Rattle.picked.specs.Picked.{pickedOf, wellPicked}
+use Rattle.picked.specs.PickedLaws as picked
+use Rattle.cutter.specs.declared.Cutter.{Cutter}
+use Rattle.cutter.specs.declared.Cut.{Cut}
+use Rattle.cutter.specs.declared.Passing.{Passing}
+use Rattle.cutter.specs.Cutter.{cutterOf, cutterRecord, goodMemory, stopping, cutBy, answerOf, Stops, passingFrom, countedWith, cutAfter}
+
+-- ---- runs
+
+-- a run from a later place on, and up to an earlier one
+run-drop : (j from to : ℕ) (files : List FileRecord) → drop j (run from to files) ≡ run (from + j) to files
+unfolding run
+run-drop j from to files = drop-map fileOf j (slice from to files) ∙ ap (map fileOf) (drop-drop j from (take to files))
+
+run-take : (n from to : ℕ) (files : List FileRecord) → from + n ≤ to → take n (run from to files) ≡ run from (from + n) files
+unfolding run
+run-take n from to files h =
+    take-map fileOf n (slice from to files)
+    ∙ ap (map fileOf) (take-drop from n (take to files) ∙ ap (drop from) (take-take (from + n) to files h))
+
+-- a front of files has no more bytes
+total-take : (n : ℕ) (fs : List File) → total (take n fs) ≤ total fs
+unfolding total
+total-take n fs =
+    let size : File → ℕ = λ f. f .size in
+    omega (arith, ap sum (take-map size n fs), sum-take n (map size fs))
+
+module _ (c : Picked) (h : wellPicked c ≡ true) where
+  -- where the grandparents stand
+  abbrev pub start : ℕ
+  start = c .first + c .second
+
+  abbrev pub stop : ℕ
+  stop = c .first + c .second + c .grand
+
+  -- those from a place on
+  pub ahead-run : (place : ℕ) → drop place (pickedOf c .grand) ≡ run (start + place) stop (c .files)
+  ahead-run place = ap (drop place) (picked.grand-run c) ∙ run-drop place start stop (c .files)
+
+  -- those from one place up to another
+  pub between-run : (j place : ℕ) → place ≤ c .grand → drop j (take place (pickedOf c .grand)) ≡ run (start + j) (start + place) (c .files)
+  between-run j place k =
+      ap (λ (gs : List File). drop j (take place gs)) (picked.grand-run c)
+      ∙ ap (drop j) (run-take place start stop (c .files) (omega arith)) ∙ run-drop j start (start + place) (c .files)
+
+  module _ (q : length (c .files) ≡ 256) where
+    -- the bytes of some of them are within a u64
+    pub between-bound : (j place : ℕ) → place ≤ c .grand → total (run (start + j) (start + place) (c .files)) ≤ 256 * 2 ^ 40
+    unfolding pickedOf
+    between-bound j place k =
+        let gs = pickedOf c .grand in
+        let good = picked.level-good (c .level + 2) gs (picked.well-says c .0 h .good .grand) in
+        let some = all-drop (goodFile full) j (take place gs) (all-take (goodFile full) place gs good) in
+        total-bound (start + j) (start + place) (c .files) q (omega (arith, picked.well-room c h)) (rw (between-run j place k) at some)
+
+-- ---- a count from the place down
+
+-- a test of numbers below suc n: of those below n, or of n
+any-last : (p : ℕ → Bool) (n : ℕ) → any p (upFrom 0 (suc n)) ≡ (any p (upFrom 0 n) || (p n || false))
+unfolding any
+any-last p n = ap (any p) (upFrom-snoc 0 n) ∙ any-append p (upFrom 0 n) ((0 + n) ∷ []) ∙ rw (zero-add n)
+
+or-false : (b : Bool) → (b || false) ≡ b
+or-false true = refl
+or-false false = refl
+
+module _ (files : List FileRecord) (from end count : ℕ) where
+  -- the bytes from some place that is not after i are the count
+  unfoldable pub countsFrom : ℕ → Bool
+  countsFrom i = any (λ j. eqb (total (run (from + j) end files)) count) (upFrom 0 (suc (i - from)))
+
+  module _ (i : ℕ) (h : from ≤ i) where
+    here : eqb (total (run (from + (i - from)) end files)) count ≡ eqb (total (run i end files)) count
+    here = let n : from + (i - from) ≡ i = omega arith in rw n
+
+    -- those from i are
+    pub counts-here : total (run i end files) ≡ count → countsFrom i ≡ true
+    unfolding countsFrom
+    counts-here e = upFrom-any (λ j. eqb (total (run (from + j) end files)) count) 0 (suc (i - from)) (i - from) (omega arith) (omega arith) (here ∙ eq-eqb (total (run i end files)) count e)
+
+  -- they are not, and there is an earlier place
+  pub counts-earlier : (i : ℕ) → from < i → (total (run i end files) ≡ count → ⊥) → countsFrom i ≡ countsFrom (i - 1)
+  unfolding countsFrom
+  counts-earlier i h n =
+      let p : ℕ → Bool = λ j. eqb (total (run (from + j) end files)) count in
+      let k : i - from ≡ suc (i - 1 - from) = omega arith in
+      any-last p (i - from) ∙ rw (here i (omega arith), ne-eqb (total (run i end files)) count n, k) (or-false (any p (upFrom 0 (suc (i - 1 - from)))))
+
+  -- there is none
+  pub counts-first : (i : ℕ) → i ≡ from → countsFrom i ≡ eqb (total (run i end files)) count
+  unfolding countsFrom upFrom any
+  counts-first i e =
+      let z : i - from ≡ 0 = omega arith in
+      let n : from + 0 ≡ i = omega arith in
+      rw (z, n) (or-false (eqb (total (run i end files)) count))
+
+-- the test of the memory's count, from its place down
+pub counts-are : (c : Picked) → wellPicked c ≡ true → (place count : ℕ) → place ≤ c .grand
+    → countsFrom (c .files) (c .first + c .second) (c .first + c .second + place) count (c .first + c .second + place) ≡ counts-up-to (pickedOf c .grand) place count
+unfolding countsFrom counts-up-to
+counts-are c h place count k =
+    let s = c .first + c .second in
+    let n : s + place - s ≡ place = omega arith in
+    rw n (any-same (λ j. eqb (total (run (s + j) (s + place) (c .files))) count) (λ j. leb j place && eqb (total (drop j (take place (pickedOf c .grand)))) count) (upFrom 0 (suc place))
+    (λ j m. let below = upFrom-in 0 (suc place) j .0 m .1 in rw (le-leb j place (omega arith), between-run c h j place k)))
+
+-- ---- the files that a key passes
+
+-- from a place on, with bytes passed before
+unfoldable pub passingWith : ℕ → ℕ → List File → model-key.Key → Passing
+passingWith place bytes fs k = record { place = place + passed k fs; bytes = bytes + total (take (passed k fs) fs) }
+
+module _ (place bytes : ℕ) (k : model-key.Key) where
+  -- the first file ends before the key, or does not, or there is none
+  module _ (fs gs : List File) (f : File) (e : fs ≡ f ∷ gs) where
+    pub passing-on : before (f .largest) k ≡ true → passingWith place bytes fs k ≡ passingWith (place + 1) (bytes + f .size) gs k
+    unfolding passingWith passed total sum
+    passing-on t =
+        let n = passed k gs in
+        let p : place + suc n ≡ place + 1 + n = omega arith in
+        let b : bytes + (f .size + total (take n gs)) ≡ bytes + f .size + total (take n gs) = omega arith in
+        rw (e, t) (λ i. record { place = p i; bytes = b i })
+
+    pub passing-stops : before (f .largest) k ≡ false → passingWith place bytes fs k ≡ record { place = place; bytes = bytes }
+    unfolding passingWith passed total sum
+    passing-stops t = rw (e, t, add-zero place, add-zero bytes)
+
+  pub passing-ends : (fs : List File) → fs ≡ [] → passingWith place bytes fs k ≡ record { place = place; bytes = bytes }
+  unfolding passingWith passed total sum
+  passing-ends fs e = rw (e, add-zero place, add-zero bytes)
+
+module _ (c : Picked) (h : wellPicked c ≡ true) (place : ℕ) (k : model-key.Key) where
+  -- with none passed before
+  pub passing-starts : passingWith place 0 (run (c .first + c .second + place) (c .first + c .second + c .grand) (c .files)) k ≡ passingFrom place (pickedOf c .grand) k
+  unfolding passingWith passingFrom
+  passing-starts = rw (← ahead-run c h place, zero-add (total (take (passed k (drop place (pickedOf c .grand))) (drop place (pickedOf c .grand)))))
+
+  -- the bytes passed are within a u64
+  pub passing-bound : length (c .files) ≡ 256 → passingFrom place (pickedOf c .grand) k .bytes ≤ 256 * 2 ^ 40
+  unfolding passingFrom
+  passing-bound q =
+      let ahead = drop place (pickedOf c .grand) in
+      omega (arith, total-take (passed k ahead) ahead, ap total (ahead-run c h place), between-bound c h q place (c .grand) (omega arith))
+
+-- ---- what a step answers
+
+-- the cut after the grandparents passed is the model's
+pub cut-is : (m : Cutter) (most : ℕ) (gs : List File) (k : model-key.Key) → cutAfter m (10 * most) (passingFrom (m .place) gs k) ≡ cutBy m (gives (cutStep most gs (cutterOf m) k))
+unfolding cutAfter cutBy countedWith passingFrom cutStep cutterOf cutterRecord outcomeOf
+cut-is m most gs k = refl
+
+module _ (c : Picked) (m : Cutter) where
+  -- what a good memory says
+  pub good-seen : m .seen ≡ true → goodMemory c m ≡ (leb (m .place) (length (pickedOf c .grand)) && leb (m .count) (10 * c .maximum) && counts-up-to (pickedOf c .grand) (m .place) (m .count))
+  unfolding goodMemory goodCutter cutterOf pickedOf
+  good-seen e = rw e
+
+  pub good-fresh : m .seen ≡ false → goodMemory c m ≡ (eqb (m .place) 0 && eqb (m .count) 0)
+  unfolding goodMemory goodCutter cutterOf
+  good-fresh e = rw e
+
+  -- its place is within the grandparents, its count at most 10 M
+  pub good-within : length (c .files) ≡ 256 → wellPicked c ≡ true → goodMemory c m ≡ true → (m .place ≤ c .grand) × (m .count ≤ 10 * c .maximum)
+  good-within q h g = go (m .seen) refl
+    where
+      go : (t : Bool) → m .seen ≡ t → (m .place ≤ c .grand) × (m .count ≤ 10 * c .maximum)
+      go true e =
+          let a = leb (m .place) (length (pickedOf c .grand)) in
+          let b = leb (m .count) (10 * c .maximum) in
+          let d = counts-up-to (pickedOf c .grand) (m .place) (m .count) in
+          let s = and-left (a && b) d (sym (good-seen e) ∙ g) in
+          (omega (arith, leb-true (m .place) (length (pickedOf c .grand)) (and-left a b s), picked.grand-length c q (picked.well-room c h)), leb-true (m .count) (10 * c .maximum) (and-right a b s))
+      go false e =
+          let s = sym (good-fresh e) ∙ g in
+          (omega (arith, eqb-true (m .place) 0 (and-left (eqb (m .place) 0) (eqb (m .count) 0) s)), omega (arith, eqb-true (m .count) 0 (and-right (eqb (m .place) 0) (eqb (m .count) 0) s)))
+
+module _ (c : Picked) (m : Cutter) (k : Key) where
+  abbrev asked : Answer model.Cut
+  asked = calls.shouldStop full (pickedOf c) (cutterOf m) (keyOf k)
+
+  -- a picked answer that is not well-formed
+  pub stop-ill : wellPicked c ≡ false → stopping c m k ≡ refused 14
+  unfolding stopping calls.shouldStop firstOf _⇒_
+  stop-ill h = picked.onPicked-ill c (λ p. calls.shouldStop full p (cutterOf m) (keyOf k)) (λ e. rw e) h
+
+  module _ (h : wellPicked c ≡ true) where
+    on-good : stopping c m k ≡ asked
+    unfolding stopping
+    on-good = picked.onPicked-well c (λ p. calls.shouldStop full p (cutterOf m) (keyOf k)) h
+
+    good : goodPicked full (pickedOf c) ≡ true
+    good = goodPicked-says full (pickedOf c) .1 (picked.well-says c .0 h .good)
+
+    -- a memory that is not
+    pub stop-bad : goodMemory c m ≡ false → stopping c m k ≡ refused 14
+    unfolding calls.shouldStop firstOf _⇒_ goodMemory
+    stop-bad g = on-good ∙ rw (good, g)
+
+    -- a key of wrong length or type
+    pub stop-key : goodMemory c m ≡ true → goodKey (full .longest) (keyOf k) ≡ false → stopping c m k ≡ refused 2
+    unfolding calls.shouldStop firstOf _⇒_ goodMemory
+    stop-key g l = on-good ∙ rw (good, g, l)
+
+    -- none of these
+    pub stop-done : goodMemory c m ≡ true → goodKey (full .longest) (keyOf k) ≡ true → stopping c m k ≡ gives (cutStep (c .maximum) (pickedOf c .grand) (cutterOf m) (keyOf k))
+    unfolding calls.shouldStop firstOf _⇒_ goodMemory pickedOf
+    stop-done g l = on-good ∙ rw (good, g, l)
+
+-- ---- what the cutter answers it takes back
+
+-- a fresh memory is well-formed
+pub fresh-good : (c : Picked) → goodMemory c (cutterRecord model.freshCutter) ≡ true
+unfolding goodMemory goodCutter cutterOf cutterRecord model.freshCutter
+fresh-good c = refl
+
+-- a key leaves a well-formed memory well-formed
+pub advance-keeps : (c : Picked) (m : Cutter) (k : Key) → goodMemory c m ≡ true
+    → goodMemory c (cutBy m (gives (cutStep (c .maximum) (pickedOf c .grand) (cutterOf m) (keyOf k))) .memory) ≡ true
+unfolding goodMemory cutBy cutterOf cutterRecord pickedOf
+advance-keeps c m k g = cutter-keeps (pickedOf c) (cutterOf m) (keyOf k) g
+
+-- and so does a step, refused or not
+pub step-keeps : (c : Picked) (m : Cutter) (k : Key) → goodMemory c m ≡ true → goodMemory c (cutBy m (stopping c m k) .memory) ≡ true
+unfolding cutBy
+step-keeps c m k g = by-picked (wellPicked c) refl
+  where
+    by-key : wellPicked c ≡ true → (t : Bool) → goodKey (full .longest) (keyOf k) ≡ t → goodMemory c (cutBy m (stopping c m k) .memory) ≡ true
+    by-key h true l = rw (stop-done c m k h g l) (advance-keeps c m k g)
+    by-key h false l = rw (stop-key c m k h g l) g
+
+    by-picked : (t : Bool) → wellPicked c ≡ t → goodMemory c (cutBy m (stopping c m k) .memory) ≡ true
+    by-picked true h = by-key h (goodKey (full .longest) (keyOf k)) refl
+    by-picked false h = rw (stop-ill c m k h) g
+
+-- ---- the answer by yes or no
+
+module _ (c : Picked) (m : Cutter) (k : Key) (r : Cut) (e : r ≡ cutBy m (stopping c m k)) where
+  -- the memory is the step's
+  after : r .memory ≡ cutBy m (stopping c m k) .memory
+  after = ap (λ (x : Cut). x .memory) e
+
+  -- a step that is refused
+  pub stops-refused : (n : ℕ) → r .outcome ≡ Refused n → Stops c m k (told.Refused n) (r .memory)
+  unfolding toldOf answerOf onAnswer cutBy outcomeOf
+  stops-refused n o = record { answer = go (stopping c m k) (sym (ap (λ (x : Cut). x .outcome) e) ∙ o); memory = after }
+    where
+      go : (a : Answer model.Cut) → cutBy m a .outcome ≡ Refused n → _≡_ {A = Answer Bool} (refused n) (onAnswer (λ (x : model.Cut). x .answer) a)
+      go (gives x) q = let z : true ≡ false = cc in clash refl z
+      go (refused j) q = let z : n ≡ j = cc in ap refused z
+
+  -- one that is done
+  pub stops-done : (t : Told) → r .outcome ≡ Done → toldOf t ≡ gives (r .cut) → Stops c m k t (r .memory)
+  unfolding answerOf onAnswer cutBy outcomeOf
+  stops-done t o q = record { answer = q ∙ go (stopping c m k) (sym (ap (λ (x : Cut). x .outcome) e) ∙ o) (ap (λ (x : Cut). x .cut) e); memory = after }
+    where
+      go : (a : Answer model.Cut) → cutBy m a .outcome ≡ Done → r .cut ≡ cutBy m a .cut → gives (r .cut) ≡ onAnswer (λ (x : model.Cut). x .answer) a
+      go (gives x) q h = ap gives h
+      go (refused j) q h = let z : true ≡ false = cc in clash refl z
+
+-- one answer has one form
+told-one : (s t : Told) → toldOf s ≡ toldOf t → s ≡ t
+unfolding toldOf
+told-one told.Yes told.Yes e = refl
+told-one told.Yes told.No e = let z : true ≡ false = cc in clash refl z
+told-one told.Yes (told.Refused n) e = let z : true ≡ false = cc in clash refl z
+told-one told.No told.Yes e = let z : true ≡ false = cc in clash refl z
+told-one told.No told.No e = refl
+told-one told.No (told.Refused n) e = let z : true ≡ false = cc in clash refl z
+told-one (told.Refused n) told.Yes e = let z : true ≡ false = cc in clash refl z
+told-one (told.Refused n) told.No e = let z : true ≡ false = cc in clash refl z
+told-one (told.Refused n) (told.Refused m) e = let z : n ≡ m = cc in ap told.Refused z
+
+-- any two outcomes of a call on lent memory are one
+pub stops-one : (c : Picked) (m : Cutter) (k : Key) (s t : Told) (a b : Cutter) → Stops c m k s a → Stops c m k t b → (s ≡ t) × (a ≡ b)
+stops-one c m k s t a b p q = (told-one s t (p .answer ∙ sym (q .answer)), p .memory ∙ sym (q .memory))

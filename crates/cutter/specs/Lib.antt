@@ -1,0 +1,2 @@
+pub mod Cutter
+pub mod CutterLaws

@@ -1,0 +1,246 @@
+// The cutter: where the output of a compaction is cut, by the bytes of the grandparents that its keys have passed.
+ghost use mathlib.Core.Path.{_≡_};
+ghost use mathlib.Core.Bool.{true};
+ghost use Prim.Native.Nat.{_+_, _≤_};
+ghost use Rattle.model.specs.Answer.{gives, refused};
+ghost use Rattle.model.specs.Question.{freshCutter, cutStep};
+ghost use Rattle.model.specs.Calls.{counts-up-to};
+ghost use Rattle.answers.specs.Outcome.{toldOf};
+ghost use Rattle.keys.specs.Key.{keyOf};
+ghost use Rattle.picked.specs.Picked.{pickedOf, wellPicked};
+ghost use Rattle.cutter.specs.Cutter.{cutterOf, cutterRecord, goodMemory, stopping, cutBy, Stops, passingFrom, countedWith, cutAfter};
+use answers::Outcome;
+use answers::Refusal;
+use answers::Told;
+use keys::Key;
+use picked::Picked;
+
+// The cutter's memory: whether a key was seen, the place among the grandparents, the bytes counted.
+pub struct Cutter {
+    pub seen: bool,
+    pub place: usize,
+    pub count: u64,
+}
+
+// Whether to cut before a key, and the memory after it; on a refusal no cut, and the memory as it was given.
+pub struct Cut {
+    pub outcome: Outcome,
+    pub cut: bool,
+    pub memory: Cutter,
+}
+
+// The place after a key among the grandparents, and the bytes that the key passes.
+struct Passing {
+    place: usize,
+    bytes: u64,
+}
+
+// Whether to cut before a key, by yes or no, and the memory after it.
+pub struct Stepped {
+    pub told: Told,
+    pub memory: Cutter,
+}
+
+// A fresh memory.
+pub fn fresh_cutter() -> Cutter
+    ensures { λ r. ⌜ r ≡ cutterRecord freshCutter ⌝ }
+{
+    Cutter {
+        seen: false,
+        place: 0,
+        count: 0,
+    }
+}
+
+// Whether the count is that of the bytes from some place up to this one: the sizes are added from this place down until their sum is the count.
+// For callers of this repository, who have tested the picked answer and the place.
+fn counts_up_to(c: Picked, place: usize, count: u64) -> bool
+    requires { ⌜ (wellPicked c ≡ true) × (place ≤ c .grand) ⌝ }
+    ensures { λ r. ⌜ r ≡ counts-up-to (pickedOf c .grand) place count ⌝ }
+{
+    let from = c.first + c.second;
+    let mut i = from + place;
+    let mut sum: u64 = 0;
+    while from < i {
+        if sum == count {
+            return true;
+        }
+        i -= 1;
+        sum += c.files[i].size;
+    }
+    sum == count
+}
+
+// Whether the memory is well-formed: fresh, or it has seen a key, its place is one of the grandparents' or their end, and its count, at most 10 M, is that of
+// the bytes from some place up to it. For callers of this repository, who have tested the picked answer.
+pub fn is_good_memory(c: Picked, m: Cutter) -> bool
+    requires { ⌜ wellPicked c ≡ true ⌝ }
+    ensures { λ r. ⌜ r ≡ goodMemory c m ⌝ }
+{
+    if !m.seen {
+        if m.place != 0 {
+            return false;
+        }
+        return m.count == 0;
+    }
+    if c.grand < m.place {
+        return false;
+    }
+    if Picked::GRAND_TIMES * c.maximum < m.count {
+        return false;
+    }
+    counts_up_to(c, m.place, m.count)
+}
+
+// The place after a key and the bytes that it passes. For callers of this repository, who have tested the picked answer and the place.
+fn pass(c: Picked, place: usize, k: Key) -> Passing
+    requires { ⌜ (wellPicked c ≡ true) × (place ≤ c .grand) ⌝ }
+    ensures { λ r. ⌜ r ≡ passingFrom place (pickedOf c .grand) (keyOf k) ⌝ }
+{
+    let from = c.first + c.second;
+    let mut at = place;
+    let mut bytes: u64 = 0;
+    while at < c.grand {
+        let f = c.files[from + at];
+        let high = f.largest;
+        if !keys::is_before(high, k) {
+            return Passing {
+                place: at,
+                bytes: bytes,
+            };
+        }
+        bytes += f.size;
+        at += 1;
+    }
+    Passing {
+        place: at,
+        bytes: bytes,
+    }
+}
+
+// The count with the bytes passed, unless the key is the first.
+fn counted_with(m: Cutter, bytes: u64) -> u64
+    requires { ⌜ m .count + bytes ≤ 18446744073709551615 ⌝ }
+    ensures { λ r. ⌜ r ≡ countedWith m bytes ⌝ }
+{
+    if m.seen { m.count + bytes } else { m.count }
+}
+
+// The cut after the grandparents passed: a count above the most becomes 0, and the answer is yes.
+fn cut_after(m: Cutter, most: u64, p: Passing) -> Cut
+    requires { ⌜ m .count + p .bytes ≤ 18446744073709551615 ⌝ }
+    ensures { λ r. ⌜ r ≡ cutAfter m most p ⌝ }
+{
+    let outcome = Outcome::Done;
+    let bytes = counted_with(m, p.bytes);
+    if most < bytes {
+        return Cut {
+            outcome: outcome,
+            cut: true,
+            memory: Cutter {
+                seen: true,
+                place: p.place,
+                count: 0,
+            },
+        };
+    }
+    Cut {
+        outcome: outcome,
+        cut: false,
+        memory: Cutter {
+            seen: true,
+            place: p.place,
+            count: bytes,
+        },
+    }
+}
+
+// One key more. For callers of this repository, who know the picked answer and the memory to be well-formed: nothing is tested again.
+pub fn advance(c: Picked, m: Cutter, k: Key) -> Cut
+    requires { ⌜ (wellPicked c ≡ true) × (goodMemory c m ≡ true) ⌝ }
+    ensures { λ r. ⌜ r ≡ cutBy m (gives (cutStep (c .maximum) (pickedOf c .grand) (cutterOf m) (keyOf k))) ⌝ }
+{
+    let p = pass(c, m.place, k);
+    cut_after(m, Picked::GRAND_TIMES * c.maximum, p)
+}
+
+// The memory as it was, with the number of the refusal.
+fn kept(m: Cutter, n: u8) -> Cut
+    ensures { λ r. ⌜ r ≡ cutBy m (refused n) ⌝ }
+{
+    let outcome = Outcome::Refused(n);
+    Cut {
+        outcome: outcome,
+        cut: false,
+        memory: m,
+    }
+}
+
+// Whether to cut before a key, and the memory after it.
+pub fn step(c: Picked, m: Cutter, k: Key) -> Cut
+    ensures { λ r. ⌜ r ≡ cutBy m (stopping c m k) ⌝ }
+{
+    if !picked::is_well_formed(c) {
+        return kept(m, Refusal::FORM);
+    }
+    if !is_good_memory(c, m) {
+        return kept(m, Refusal::FORM);
+    }
+    if !keys::is_good(k) {
+        return kept(m, Refusal::KEY);
+    }
+    advance(c, m, k)
+}
+
+// The same, answered by yes or no.
+fn answered(c: Picked, m: Cutter, k: Key) -> Stepped
+    ensures { λ r. ⌜ Stops c m k (r .told) (r .memory) ⌝ }
+{
+    let s = step(c, m, k);
+    let memory = s.memory;
+    let outcome = s.outcome;
+    match outcome {
+        Outcome::Refused(n) => {
+            let told = Told::Refused(n);
+            Stepped {
+                told: told,
+                memory: memory,
+            }
+        }
+        Outcome::Done => {
+            let told = yes_or_no(s.cut);
+            Stepped {
+                told: told,
+                memory: memory,
+            }
+        }
+    }
+}
+
+// A test as an answer.
+fn yes_or_no(b: bool) -> Told
+    ensures { λ r. ⌜ toldOf r ≡ gives b ⌝ }
+{
+    if b { Told::Yes } else { Told::No }
+}
+
+// Whether to cut before a key, on memory that the caller lends: it is changed in place; on a refusal it is as it was.
+pub fn should_stop_before(c: Picked, m: &mut Cutter, k: Key) -> Told
+    ensures { λ r. ⌜ Stops c (now (m .entry)) k r (now (m .exit)) ⌝ }
+{
+    let s = answered(c, *m, k);
+    *m = s.memory;
+    s.told
+}
+
+// The same by value, over the lent form: what a program calls.
+pub fn stopped(c: Picked, m: Cutter, k: Key) -> Stepped
+    ensures { λ r. ⌜ Stops c m k (r .told) (r .memory) ⌝ }
+{
+    let mut memory = m;
+    let told = should_stop_before(c, &mut memory, k);
+    Stepped {
+        told: told,
+        memory: memory,
+    }
+}

@@ -1,0 +1,5 @@
+pub mod FallingLaws
+pub mod GatherLaws
+pub mod Lookup
+pub mod LookupLaws
+pub mod SearchLaws

@@ -1,0 +1,375 @@
+-- Laws of lookups: a lent list answers as the list that is gathered of it, the files that hold a user key, and the one that may. Assumes nothing.
+use Prim.Native.Nat.{ℕ, zero, suc, _+_, _-_, _*_, _^_, _≤_, _<_}
+use mathlib.Core.Path.{_≡_, refl, sym, ap, _∙_}
+use mathlib.Core.Bool.{Bool, true, false, not, _&&_, cond}
+use mathlib.Core.List.{List, [], _∷_, _++_, map, Option·toList}
+use mathlib.Core.Option.{Option, none, some}
+use native.Mathlib.Omega.{arith}
+use native.Mathlib.Decide.{decLe}
+use lib.Dec.{ltb, leb}
+use lib.ListN.{length, getD, take, drop, set, replicate, length-set, length-map, length-take}
+use lib.Seq.{slice, take-all, take-at, drop-at}
+use borrow.Author.Tests.{lt-ltb, le-ltb, lt-leb}
+use Rattle.lemmas.specs.Each.{Each, each-slice}
+use Rattle.lemmas.specs.Lists.{all, keep, push, sort}
+use Rattle.lemmas.specs.ListLaws.{and-true, both, keep-length}
+use Rattle.lemmas.specs.Loops.{keep-map-kept, keep-map-passed, keep-map-ended}
+use Rattle.lemmas.specs.Merge.{front-laid}
+use Rattle.lemmas.specs.Order.{clash}
+use Rattle.lemmas.specs.Slices.{put, put-cons, put-nil, put-front, drop-replicate, length-put, length-view, at-view, getD-map}
+use Rattle.model.specs.Answer.{Answer, gives, refused, Refusal, _⇒_, firstOf, onAnswer, lent}
+use Rattle.model.specs.Key.{userBefore, user, goodKey}
+use Rattle.model.specs.File.{File, full, numbers, inOrder, apart}
+use Rattle.model.specs.Pick.{goodLevel}
+use Rattle.model.specs.PickedLaws.{goodLevel-says}
+use Rattle.model.specs.Question.{findFile, findIndex, passed, holds, lookup, candidate}
+use Rattle.model.specs.QuestionLaws.{found-at, find-neither, find-index-is}
+use Rattle.model.specs.Calls.{lentList, findFileCall, lookUp}
+use Rattle.answers.specs.Outcome.{countedOf, filling}
+use Rattle.answers.specs.declared.Counted.{Counted}
+use Rattle.answers.specs.declared.Counted.the-variants.{Filled, Refused}
+use Rattle.records.specs.Record.{fileOf, blank, vacant, soundRecord, isBlank}
+use Rattle.records.specs.RecordLaws.{past, AllWords, vacant-blank}
+use Rattle.records.specs.Run.{run}
+use Rattle.records.specs.declared.FileRecord.{FileRecord}
+use Rattle.lists.specs.List.{filesOf, soundList, wellList, onList}
+use Rattle.lists.specs.ListLaws as list
+use Rattle.lists.specs.declared.FileList.{FileList}
+use Rattle.lookups.specs.FallingLaws.{small, falling-is}
+use Rattle.lookups.specs.SearchLaws.{halved-passed}
+use Rattle.lookups.specs.declared.Column.{Column}
+use Rattle.lookups.specs.declared.Round.{Round}
+use Rattle.lookups.specs.Lookup.{onLent, gathered, fitting, halved, flip, columnOf, Deep, Asking}
+
+-- ---- a lent list and the list that is gathered of it
+
+-- no more records than there is room for stand in front, blank records past them
+module _ (rs : List FileRecord) (h : length rs ≤ 256) where
+  laid : gathered rs .files ≡ rs ++ drop (length rs) (vacant 256)
+  unfolding gathered full
+  laid = ap (put (vacant 256) 0) (take-all 256 rs h) ∙ put-front (vacant 256) rs
+
+  pub gathered-front : take (length rs) (gathered rs .files) ≡ rs
+  gathered-front = ap (take (length rs)) laid ∙ take-at rs (drop (length rs) (vacant 256)) (length rs) refl
+
+  gathered-back : all isBlank (drop (length rs) (gathered rs .files)) ≡ true
+  unfolding vacant
+  gathered-back =
+      ap (λ (l : List FileRecord). all isBlank (drop (length rs) l)) laid ∙ ap (all isBlank) (drop-at rs (drop (length rs) (vacant 256)) (length rs) refl ∙ drop-replicate (length rs) 256 blank) ∙ vacant-blank (256 - length rs)
+
+-- its records are sound where the lent ones are, and no more than there is room for
+gathered-sound : (rs : List FileRecord) → soundList (gathered rs) ≡ (leb (length rs) 256 && all soundRecord rs)
+unfolding soundList gathered full
+gathered-sound rs = go (decLe (length rs) 256)
+  where
+    go : Dec (length rs ≤ 256) → (leb (length rs) 256 && all soundRecord (take (length rs) (gathered rs .files)) && all isBlank (drop (length rs) (gathered rs .files))) ≡ (leb (length rs) 256 && all soundRecord rs)
+    go (yes h) = rw (gathered-front rs h, gathered-back rs h) (and-true (leb (length rs) 256 && all soundRecord rs))
+    go (no h) = rw (lt-leb (length rs) 256 (omega arith))
+
+-- a call on a lent list answers what it answers on the list that is gathered of it
+pub on-gathered : {A : Type 0} (n : ℕ) (rs : List FileRecord) (call : List File → Answer A) → onList n (gathered rs) call ≡ onLent n rs call
+unfolding onList onLent full filesOf gathered
+on-gathered {A} n rs call = rw (gathered-sound rs) (go (decLe (length rs) 256))
+  where
+    go : Dec (length rs ≤ 256) → _≡_ {A = Answer A}
+        (cond (leb (length rs) 256 && all soundRecord rs) (call (map fileOf (take (gathered rs .count) (gathered rs .files)))) (cond (ltb n 7) (refused 14) (refused 1)))
+        (cond (leb (length rs) 256 && all soundRecord rs) (call (map fileOf rs)) (cond (ltb n 7) (refused 14) (refused 1)))
+    go (yes h) = ap (λ (l : List FileRecord). cond (leb (length rs) 256 && all soundRecord rs) (call (map fileOf l)) (cond (ltb n 7) (refused 14) (refused 1))) (gathered-front rs h)
+    go (no h) = rw (lt-leb (length rs) 256 (omega arith))
+
+-- the search on the lent list is the search on what is gathered of it
+pub gathered-halved : (k : List ℕ) (rs : List FileRecord) (at : ℕ) → at ≡ halved k rs → gathered rs .count ≤ 256 → at ≡ halved k (take (gathered rs .count) (gathered rs .files))
+unfolding gathered
+gathered-halved k rs at e h = e ∙ ap (halved k) (sym (gathered-front rs h))
+
+-- a well-formed level above 0 stands strictly apart
+pub good-deep : (n : ℕ) (fs : List File) → (n ≡ 0 → ⊥) → goodLevel full n fs ≡ true → Deep fs
+unfolding inOrder
+good-deep zero fs h g = absurd (h refl)
+good-deep (suc n) fs h g = let t = goodLevel-says full (suc n) fs .0 g in record { good = t .good; apart = t .ordered }
+
+-- so does a well-formed list of one
+well-deep : (n : ℕ) (l : FileList) → (n ≡ 0 → ⊥) → wellList n l ≡ true → Deep (map fileOf (take (l .count) (l .files)))
+unfolding filesOf
+well-deep n l h w = good-deep n (filesOf l) h (list.well-says n l .0 w .good)
+
+-- and it can be asked each round whose sum stays small
+pub well-asking : (n : ℕ) (l : FileList) (r : Round) → (n ≡ 0 → ⊥) → wellList n l ≡ true → r .sum + 256 * r .left ≤ 1099511627776 → Asking (map fileOf (take (l .count) (l .files))) r
+well-asking n l r h w s =
+    record {
+      deep = well-deep n l h w;
+      few = omega (arith, length-map (take (l .count) (l .files)) fileOf, length-take (l .count) (l .files), list.well-room n l w);
+      small = s;
+    }
+
+-- on such a list the search by halves ends after the files that end before the key
+pub well-passed : (n : ℕ) (l : FileList) (k : List ℕ) (at : ℕ) → (n ≡ 0 → ⊥) → wellList n l ≡ true → (l .count ≤ 256 → at ≡ halved k (take (l .count) (l .files))) → at ≡ passed k (filesOf l)
+unfolding filesOf
+well-passed n l k at h w e = e (list.well-room n l w) ∙ halved-passed k (take (l .count) (l .files)) (well-deep n l h w)
+
+-- ---- find_file on a list
+
+module _ (n : ℕ) (l : FileList) (k : List ℕ) where
+  abbrev keyTest : List File → List Refusal
+  keyTest fs = (not (goodKey (full .longest) k) ⇒ 2) ∷ []
+
+  pub find-beyond : 7 ≤ n → onList n l (λ fs. findFileCall full n fs k) ≡ refused 1
+  unfolding findFileCall lentList
+  find-beyond h = list.lent-beyond n l keyTest (findIndex k) h
+
+  pub find-bad : n < 7 → wellList n l ≡ false → onList n l (λ fs. findFileCall full n fs k) ≡ refused 14
+  unfolding findFileCall lentList
+  find-bad h w = list.lent-bad n l keyTest (findIndex k) h w
+
+  pub find-key : n < 7 → wellList n l ≡ true → goodKey (full .longest) k ≡ false → onList n l (λ fs. findFileCall full n fs k) ≡ refused 2
+  unfolding findFileCall lentList firstOf _⇒_
+  find-key h w g = list.lent-good n l keyTest (findIndex k) h w ∙ rw g
+
+  -- the index of the first file that does not end before the key, where there is one
+  pub find-good : length (l .files) ≡ 256 → n < 7 → wellList n l ≡ true → goodKey (full .longest) k ≡ true
+      → onList n l (λ fs. findFileCall full n fs k) ≡ gives (cond (ltb (passed k (filesOf l)) (l .count)) (some (passed k (filesOf l))) none)
+  unfolding findFileCall lentList firstOf _⇒_
+  find-good q h w g =
+      list.lent-good n l keyTest (findIndex k) h w ∙ rw g
+      (ap gives (find-index-is k (filesOf l) ∙ ap (λ (m : ℕ). cond (ltb (passed k (filesOf l)) m) (some (passed k (filesOf l))) none) (list.files-count n l q w)))
+
+-- ---- lookups on a list
+
+module _ (n : ℕ) (l : FileList) (k : List ℕ) (room : ℕ) where
+  abbrev lookTests : List File → List Refusal
+  lookTests fs = (not (goodKey (full .longest) k) ⇒ 2) ∷ (ltb room (length (lookup n fs k)) ⇒ 13) ∷ []
+
+  abbrev look : List File → List ℕ
+  look fs = lookup n fs k
+
+  pub look-beyond : 7 ≤ n → onList n l (λ fs. lookUp full n fs k room) ≡ refused 1
+  unfolding lookUp lentList
+  look-beyond h = list.lent-beyond n l lookTests look h
+
+  pub look-bad : n < 7 → wellList n l ≡ false → onList n l (λ fs. lookUp full n fs k room) ≡ refused 14
+  unfolding lookUp lentList
+  look-bad h w = list.lent-bad n l lookTests look h w
+
+  pub look-key : n < 7 → wellList n l ≡ true → goodKey (full .longest) k ≡ false → onList n l (λ fs. lookUp full n fs k room) ≡ refused 2
+  unfolding lookUp lentList firstOf _⇒_
+  look-key h w g = list.lent-good n l lookTests look h w ∙ rw g
+
+  pub look-good : n < 7 → wellList n l ≡ true → goodKey (full .longest) k ≡ true → onList n l (λ fs. lookUp full n fs k room) ≡ fitting room (lookup n (filesOf l) k)
+  unfolding lookUp lentList firstOf _⇒_ fitting
+  look-good h w g = list.lent-good n l lookTests look h w ∙ rw g
+
+-- at level 0, and deeper
+pub lookup-first : (n : ℕ) (fs : List File) (k : List ℕ) → n ≡ 0 → lookup n fs k ≡ lookup 0 fs k
+lookup-first n fs k e = ap (λ (m : ℕ). lookup m fs k) e
+
+pub lookup-deeper : (n : ℕ) (fs : List File) (k : List ℕ) → (n ≡ 0 → ⊥) → lookup n fs k ≡ candidate k fs
+unfolding lookup
+lookup-deeper zero fs k h = absurd (h refl)
+lookup-deeper (suc n) fs k h = refl
+
+-- ---- answers that fit lent output
+
+module _ {A : Type 0} (room : ℕ) (xs : List A) where
+  -- the output is shorter than the answer
+  pub fitting-short : room < length xs → fitting room xs ≡ refused 13
+  unfolding fitting firstOf _⇒_
+  fitting-short h = rw (lt-ltb room (length xs) h)
+
+  -- it is not
+  pub fitting-gives : length xs ≤ room → fitting room xs ≡ gives xs
+  unfolding fitting firstOf _⇒_
+  fitting-gives h = rw (le-ltb room (length xs) h)
+
+-- what a call with lent output has to show: what it says, and what it leaves in the output
+module _ (a : Answer (List ℕ)) (out : List ℕ) where
+  abbrev pub Answered : Counted → List ℕ → Type 0
+  Answered r after = (countedOf r ≡ filling a) × (after ≡ lent a out)
+
+  -- on a refusal the output is as it was
+  pub answered-refused : (n : ℕ) → a ≡ refused n → Answered (Refused n) out
+  unfolding countedOf filling onAnswer lent
+  answered-refused n e = (rw e, rw e)
+
+  -- else the answer lies over its front
+  pub answered-gives : (xs : List ℕ) (n : ℕ) (after : List ℕ) → a ≡ gives xs → length xs ≡ n → after ≡ put out 0 xs → Answered (Filled n) after
+  unfolding countedOf filling onAnswer lent
+  answered-gives xs n after e k f = (rw e (ap gives (sym k)), rw e (f ∙ put-front out xs))
+
+  -- no answer leaves it as it was
+  pub answered-none : a ≡ gives [] → Answered (Filled 0) out
+  answered-none e = answered-gives [] 0 out e refl (sym (put-nil out 0))
+
+-- an answer that is another
+pub answered-as : (a b : Answer (List ℕ)) (out : List ℕ) (r : Counted) (after : List ℕ) → a ≡ b → Answered b out r after → Answered a out r after
+answered-as a b out r after e h = rw e h
+
+-- ---- the files of a run by their places
+
+module _ (n : ℕ) (files : List FileRecord) (h : n ≤ length files) where
+  pub run-long : length (run 0 n files) ≡ n
+  unfolding run
+  run-long = let e : n - 0 ≡ n = omega arith in length-view fileOf 0 n files h ∙ e
+
+  pub run-file : (i : ℕ) → i < n → getD (run 0 n files) i (fileOf past) ≡ fileOf (getD files i past)
+  unfolding run
+  run-file i k =
+      let e : 0 + i ≡ i = omega arith in
+      at-view fileOf 0 n files i past (fileOf past) (omega arith) h ∙ ap (λ (j : ℕ). fileOf (getD files j past)) e
+
+-- ---- the files that hold a user key
+
+module _ (p : File → Bool) where
+  -- their numbers, each turned
+  abbrev pub turned : List File → List ℕ
+  turned fs = map flip (numbers (keep p fs))
+
+  module _ (i e : ℕ) (files : List FileRecord) (h : i < e) (k : e ≤ length files) where
+    pub turned-kept : p (fileOf (getD files i past)) ≡ true → turned (run i e files) ≡ flip (getD files i past .number .0) ∷ turned (run (i + 1) e files)
+    unfolding run numbers fileOf
+    turned-kept t = ap (λ (fs : List File). map flip (map (λ (f : File). f .number) fs)) (keep-map-kept fileOf p i e files past h k t)
+
+    pub turned-passed : p (fileOf (getD files i past)) ≡ false → turned (run i e files) ≡ turned (run (i + 1) e files)
+    unfolding run
+    turned-passed t = ap (λ (fs : List File). map flip (numbers fs)) (keep-map-passed fileOf p i e files past h k t)
+
+  pub turned-ended : (i e : ℕ) (files : List FileRecord) → i ≤ e → e ≤ i → turned (run i e files) ≡ []
+  unfolding run numbers
+  turned-ended i e files h k = ap (λ (fs : List File). map flip (numbers fs)) (keep-map-ended fileOf p i e files past h k)
+
+  -- they are numbers of 64 bits
+  small-kept : (rs : List FileRecord) → AllWords rs → all small (numbers (keep p (map fileOf rs))) ≡ true
+  unfolding all keep numbers push Each fileOf
+  small-kept [] w = refl
+  small-kept (r ∷ rs) w = go (p (fileOf r)) (small-kept rs (w .1))
+    where
+      go : (t : Bool) → all small (numbers (keep p (map fileOf rs))) ≡ true → all small (map (λ (f : File). f .number) (push t (fileOf r) (keep p (map fileOf rs)))) ≡ true
+      go true ih = both (small (r .number .0)) (all small (numbers (keep p (map fileOf rs)))) (lt-ltb (r .number .0) (2 ^ 64) (w .0)) ih
+      go false ih = ih
+
+  pub small-numbers : (i e : ℕ) (files : List FileRecord) → AllWords files → all small (numbers (keep p (run i e files))) ≡ true
+  unfolding run
+  small-numbers i e files w = small-kept (slice i e files) (each-slice (λ (r : FileRecord). r .number .0 < 2 ^ 64) i e files w)
+
+-- ---- the file that may hold the key
+
+module _ (k : List ℕ) (fs : List File) where
+  -- no file is left that does not end before the key
+  pub candidate-none : length fs ≤ passed k fs → candidate k fs ≡ []
+  unfolding candidate Option·toList keep numbers
+  candidate-none h = go (findFile k fs) refl
+    where
+      go : (o : Option File) → findFile k fs ≡ o → numbers (keep (λ f. not (userBefore (user k) (user (f .smallest)))) (Option·toList (findFile k fs))) ≡ []
+      go none e = rw e
+      go (some f) e = absurd (omega (arith, found-at k fs f e .below))
+
+  -- the first that does not is the one
+  first-left : (d : File) → passed k fs < length fs → findFile k fs ≡ some (getD fs (passed k fs) d)
+  first-left d h = go (findFile k fs) refl
+    where
+      go : (o : Option File) → findFile k fs ≡ o → findFile k fs ≡ some (getD fs (passed k fs) d)
+      go (some f) e = e ∙ ap some (sym (found-at k fs f e .at d))
+      go none e =
+          let a : some (passed k fs) ≡ none = sym (find-index-is k fs ∙ rw (lt-ltb (passed k fs) (length fs) h)) ∙ find-neither k fs e in
+          let z : true ≡ false = cc in clash refl z
+
+  module _ (d : File) (h : passed k fs < length fs) where
+    -- its smallest user key is above the key's
+    pub candidate-above : userBefore (user k) (user (getD fs (passed k fs) d .smallest)) ≡ true → candidate k fs ≡ []
+    unfolding candidate Option·toList keep push numbers
+    candidate-above t = rw (first-left d h, t)
+
+    -- it is not
+    pub candidate-is : userBefore (user k) (user (getD fs (passed k fs) d .smallest)) ≡ false → candidate k fs ≡ getD fs (passed k fs) d .number ∷ []
+    unfolding candidate Option·toList keep push numbers
+    candidate-is t = rw (first-left d h, t)
+
+-- ---- the numbers of those that pass, laid down one after another
+
+-- laid down up to i
+pub record Laying (p : File → Bool) (n : ℕ) (files : List FileRecord) (out : List ℕ) (count i : ℕ) : Type 0 where
+  pub some-of : i ≤ n
+  pub fewer : count ≤ i
+  pub room : length out ≡ 256
+  pub lays : put out count (turned p (run i n files)) ≡ put (replicate 256 0) 0 (turned p (run 0 n files))
+  pub counts : count + length (turned p (run i n files)) ≡ length (turned p (run 0 n files))
+
+module _ (p : File → Bool) (n : ℕ) (files : List FileRecord) (h : n ≤ length files) where
+  pub lay-starts : Laying p n files (replicate 256 0) 0 0
+  lay-starts = record { some-of = omega arith; fewer = omega arith; room = refl; lays = refl; counts = omega arith }
+
+  pub lay-kept : (out : List ℕ) (count i : ℕ) → Laying p n files out count i → i < n → n ≤ 256 → p (fileOf (getD files i past)) ≡ true
+      → Laying p n files (set out count (18446744073709551615 - getD files i past .number .0)) (count + 1) (i + 1)
+  unfolding flip
+  lay-kept out count i l k few t =
+      let x = 18446744073709551615 - getD files i past .number .0 in
+      let e = turned-kept p i n files k h t in
+      record {
+        some-of = omega arith;
+        fewer = omega (arith, l .fewer);
+        room = length-set out count x ∙ l .room;
+        lays = put-cons out count x (turned p (run (i + 1) n files)) (omega (arith, l .fewer, l .room)) ∙ ap (put out count) (sym e) ∙ l .lays;
+        counts = omega (arith, l .counts, ap length e);
+      }
+
+  pub lay-passed : (out : List ℕ) (count i : ℕ) → Laying p n files out count i → i < n → p (fileOf (getD files i past)) ≡ false → Laying p n files out count (i + 1)
+  lay-passed out count i l k t =
+      let e = turned-passed p i n files k h t in
+      record { some-of = omega arith; fewer = omega (arith, l .fewer); room = l .room; lays = ap (put out count) (sym e) ∙ l .lays; counts = omega (arith, l .counts, ap length e) }
+
+  pub lay-ends : (out : List ℕ) (count i : ℕ) → Laying p n files out count i → n ≤ i → record { numbers = out; count = count } ≡ columnOf (turned p (run 0 n files))
+  unfolding columnOf
+  lay-ends out count i l k =
+      let e = turned-ended p i n files (l .some-of) k in
+      let laid-all : out ≡ put (replicate 256 0) 0 (turned p (run 0 n files)) = sym (ap (put out count) e ∙ put-nil out count) ∙ l .lays in
+      let counted : count ≡ length (turned p (run 0 n files)) = omega (arith, l .counts, ap length e) in
+      λ j. record { numbers = laid-all j; count = counted j }
+
+  -- they are no more than the places
+  pub few-turned : n ≤ 256 → length (turned p (run 0 n files)) ≤ 256
+  unfolding numbers
+  few-turned few =
+      let kept = keep p (run 0 n files) in
+      let a = length-map (map (λ (f : File). f .number) kept) flip in
+      let b = length-map kept (λ (f : File). f .number) in
+      omega (arith, a, b, keep-length p (run 0 n files), run-long n files h)
+
+-- a column of numbers, read back
+module _ (c : Column) (ns : List ℕ) (e : c ≡ columnOf ns) (few : length ns ≤ 256) where
+  pub column-count : c .count ≡ length ns
+  unfolding columnOf
+  column-count = ap (λ (d : Column). d .count) e
+
+  pub column-room : length (c .numbers) ≡ 256
+  unfolding columnOf
+  column-room =
+      let zeros : length {A = ℕ} (replicate 256 0) ≡ 256 = refl in
+      ap (λ (d : Column). length (d .numbers)) e ∙ length-put (replicate 256 0) 0 ns (omega (arith, zeros))
+
+  pub column-front : take (c .count - 0) (c .numbers) ≡ ns
+  unfolding columnOf
+  column-front =
+      let n : c .count - 0 ≡ length ns = omega (arith, column-count) in
+      rw n (front-laid (replicate 256 0) (c .numbers) ns (length ns) refl (ap (λ (d : Column). d .numbers) e))
+
+-- the files that hold the key's user key, greatest number first
+pub first-is : (k : List ℕ) (fs : List File) → all small (numbers (keep (holds (user k)) fs)) ≡ true → map flip (sort ltb (turned (holds (user k)) fs)) ≡ lookup 0 fs k
+unfolding lookup
+first-is k fs h = falling-is (numbers (keep (holds (user k)) fs)) h
+
+-- the file that may hold the key, by its place
+module _ (k : List ℕ) (rs : List FileRecord) where
+  pub candidate-at : (at : ℕ) → at ≡ passed k (map fileOf rs) → at < length rs
+      → cond (userBefore (user k) (user (fileOf (getD rs at past) .smallest))) [] (fileOf (getD rs at past) .number ∷ []) ≡ candidate k (map fileOf rs)
+  candidate-at at e h =
+      let fs = map fileOf rs in
+      let here : getD fs (passed k fs) (fileOf past) ≡ fileOf (getD rs at past) = ap (λ (i : ℕ). getD fs i (fileOf past)) (sym e) ∙ getD-map fileOf rs at past (fileOf past) h in
+      let below : passed k fs < length fs = omega (arith, length-map rs fileOf) in
+      ap (λ (f : File). cond (userBefore (user k) (user (f .smallest))) [] (f .number ∷ [])) (sym here) ∙ go (userBefore (user k) (user (getD fs (passed k fs) (fileOf past) .smallest))) refl below
+    where
+      go : (t : Bool) → userBefore (user k) (user (getD (map fileOf rs) (passed k (map fileOf rs)) (fileOf past) .smallest)) ≡ t → passed k (map fileOf rs) < length (map fileOf rs)
+          → cond (userBefore (user k) (user (getD (map fileOf rs) (passed k (map fileOf rs)) (fileOf past) .smallest))) [] (getD (map fileOf rs) (passed k (map fileOf rs)) (fileOf past) .number ∷ []) ≡ candidate k (map fileOf rs)
+      go true t b = rw t (sym (candidate-above k (map fileOf rs) (fileOf past) b t))
+      go false t b = rw t (sym (candidate-is k (map fileOf rs) (fileOf past) b t))
+
+  pub candidate-past : (at : ℕ) → at ≡ passed k (map fileOf rs) → length rs ≤ at → [] ≡ candidate k (map fileOf rs)
+  candidate-past at e h = sym (candidate-none k (map fileOf rs) (omega (arith, length-map rs fileOf)))
