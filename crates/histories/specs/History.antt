@@ -6,21 +6,26 @@ use Rattle.model.specs.File.{full, fresh}
 use Rattle.model.specs.Edit.{edit}
 use Rattle.model.specs.Counters.{new, reuse, mark, last, manifest, previous, counter}
 use Rattle.model.specs.Calls as calls
+use Rattle.model.specs.Pick.{sizePick, manualPick}
 use Rattle.model.specs.History as model
+use Rattle.keys.specs.Key.{keyOf}
+use Rattle.keys.specs.declared.Key.{Key}
 use Rattle.keys.specs.declared.FileNumber.{FileNumber}
 use Rattle.keys.specs.declared.SequenceNumber.{SequenceNumber}
 use Rattle.edits.specs.declared.Addition.{Addition}
 use Rattle.edits.specs.declared.Edit.{Edit}
 use Rattle.edits.specs.Edit.{editOf}
+use Rattle.picked.specs.Picked.{pickOf}
 use Rattle.store.specs.declared.Store.{Store}
 use Rattle.store.specs.declared.Stored.{Stored}
 use Rattle.store.specs.Store.{storeOf, onStore, stored, handed}
 use Rattle.writing.specs.Writing.{snapshotOf}
 
--- the code's calls that change a store: edits and counter calls. A pick changes a store too: each kind of pick has its place here as a constructor,
--- with a line in each definition below
+-- the code's calls that change a store: edits, size picks with a maximum file size, manual picks with their level and range too, and counter calls
 pub data Call : Type 0 where
   apply : Edit → Call
+  pickSize : ℕ → Call
+  pickRange : ℕ → ℕ → Key → Key → Call
   newNumber : Call
   reuseNumber : FileNumber → Call
   markNumber : FileNumber → Call
@@ -31,6 +36,8 @@ pub data Call : Type 0 where
 -- the store that a call leaves: the store in the right side of the call's contract, for every store, the call accepted or refused
 unfoldable pub called : Store → Call → Store
 called s (apply e) = stored s (onStore s (λ t. edit full t (editOf e))) .store
+called s (pickSize m) = pickOf s (onStore s (λ t. sizePick full t m)) .store
+called s (pickRange m l a b) = pickOf s (onStore s (λ t. manualPick full t m l (keyOf a) (keyOf b))) .store
 called s newNumber = handed s (onStore s (calls.newNumber full)) .store
 called s (reuseNumber n) = stored s (onStore s (λ t. counter full t (reuse (n .0)))) .store
 called s (markNumber n) = stored s (onStore s (λ t. counter full t (mark (n .0)))) .store
@@ -41,6 +48,8 @@ called s (setPrevious n) = stored s (onStore s (λ t. counter full t (previous (
 -- the model's call that a call of the code stands for
 unfoldable pub callOf : Call → model.Call
 callOf (apply e) = model.edits (editOf e)
+callOf (pickSize m) = model.picksSize m
+callOf (pickRange m l a b) = model.picksRange m l (keyOf a) (keyOf b)
 callOf newNumber = model.counts new
 callOf (reuseNumber n) = model.counts (reuse (n .0))
 callOf (markNumber n) = model.counts (mark (n .0))
@@ -51,6 +60,8 @@ callOf (setPrevious n) = model.counts (previous (n .0))
 -- what every call that code can make has by its types: the numbers of the files that an edit adds are 64-bit numbers
 abbrev pub Passable : Call → Type 0
 Passable (apply e) = (a : Addition) → In a (e .additions) → a .number .0 < 2 ^ 64
+Passable (pickSize m) = Unit {0}
+Passable (pickRange m l a b) = Unit {0}
 Passable newNumber = Unit {0}
 Passable (reuseNumber n) = Unit {0}
 Passable (markNumber n) = Unit {0}

@@ -18,7 +18,9 @@ use Rattle.model.specs.Edit.{edit}
 use Rattle.model.specs.Counters.{CounterCall, new, reuse, mark, last, manifest, previous, counter}
 use Rattle.model.specs.CounterLaws.{new-is}
 use Rattle.model.specs.Calls as calls
-use Rattle.model.specs.History.{kept, after, run, Event, events, Stays, pointerLeft, countersLeft, SameLeft}
+use Rattle.model.specs.Pick.{Pick, sizePick, manualPick}
+use Rattle.model.specs.PickLaws.{size-keeps, range-keeps}
+use Rattle.model.specs.History.{kept, keptPick, after, run, Event, events, Stays, pointerLeft, countersLeft, SameLeft}
 use Rattle.model.specs.HistoryLaws.{fresh-stays, run-counters, run-pointers}
 use Rattle.model.specs.Formed.{WF, formed-says, Words, edit-keeps, count-keeps}
 use Rattle.model.specs.Snapshot.{byNumber, encode, decode}
@@ -30,13 +32,15 @@ use Rattle.answers.specs.declared.Outcome.the-variants.{Done}
 use Rattle.edits.specs.declared.Addition.{Addition}
 use Rattle.edits.specs.declared.Edit.{Edit}
 use Rattle.edits.specs.Edit.{editOf, additionOf, blankAddition, entries}
+use Rattle.keys.specs.Key.{keyOf}
+use Rattle.picked.specs.Picked.{pickOf}
 use Rattle.store.specs.declared.Store.{Store}
 use Rattle.store.specs.declared.Stored.{Stored}
 use Rattle.store.specs.Store.{stateOf, storeOf, wellStore, onStore, leaves, stored, refusedBy, handed}
 use Rattle.store.specs.StoreLaws as store
 use Rattle.writing.specs.Writing.{snapshotOf}
 use Rattle.writing.specs.WritingLaws.{written-ill, written-well, snapshot-most}
-use Rattle.histories.specs.History.{Call, apply, newNumber, reuseNumber, markNumber, setLast, setManifest, setPrevious, called, callOf, Passable, freshStore, ran, written, readBack}
+use Rattle.histories.specs.History.{Call, apply, pickSize, pickRange, newNumber, reuseNumber, markNumber, setLast, setManifest, setPrevious, called, callOf, Passable, freshStore, ran, written, readBack}
 
 -- ---- one call
 
@@ -87,6 +91,17 @@ new-step s h =
     ap (λ (x : Answer calls.Handed). handed s x .store) (store.onStore-well s (calls.newNumber full) (h .well) ∙ new-is full (stateOf s)) ∙ handed-store s f a (λ t. refl) in
     rw e (leaves-step s a h (λ t q. count-keeps full (stateOf s) new t q))
 
+-- by what a pick answers alike: an accepted one leaves the store of the state after it
+pick-leaves : (s : Store) (a : Answer Pick) → Held s → ((k : Pick) → a ≡ gives k → WF full (k .after)) → Step (pickOf s a .store) (keptPick (stateOf s) a)
+unfolding pickOf keptPick
+pick-leaves s (gives k) h w = let f = w k refl in record { held = held-state (k .after) f; state = store.held (k .after) (formed-says full (k .after) .1 f) .0 }
+pick-leaves s (refused n) h w = record { held = h; state = refl }
+
+-- a pick on a store answers for its state
+pick-step : (s : Store) (call : State → Answer Pick) → Held s → ((k : Pick) → call (stateOf s) ≡ gives k → WF full (k .after))
+    → Step (pickOf s (onStore s call) .store) (keptPick (stateOf s) (call (stateOf s)))
+pick-step s call h w = rw (store.onStore-well s call (h .well)) (pick-leaves s (call (stateOf s)) h w)
+
 -- the numbers of the files that an edit's record adds are those of its additions, or 0 where it names more than it has room for
 passable-words : (e : Edit) → Passable (apply e) → Words (editOf e)
 unfolding editOf additionOf entries blankAddition
@@ -103,6 +118,9 @@ passable-words e p a m =
 pub steps : (s : Store) (c : Call) → Held s → Passable c → Step (called s c) (after full (stateOf s) (callOf c))
 unfolding called callOf after
 steps s (apply e) h p = stored-step s (λ t. edit full t (editOf e)) h (λ t q. edit-keeps full (stateOf s) (editOf e) t (passable-words e p) q)
+steps s (pickSize m) h p = pick-step s (λ t. sizePick full t m) h (λ k q. size-keeps full (stateOf s) m k q)
+steps s (pickRange m l a b) h p =
+    pick-step s (λ t. manualPick full t m l (keyOf a) (keyOf b)) h (λ k q. range-keeps full (stateOf s) m l (keyOf a) (keyOf b) k q)
 steps s newNumber h p = new-step s h
 steps s (reuseNumber n) h p = count-step s (reuse (n .0)) h
 steps s (markNumber n) h p = count-step s (mark (n .0)) h
@@ -136,6 +154,8 @@ passable-calls : (cs : List Call) → Each Passable cs → WordCalls (map callOf
 unfolding Each callOf
 passable-calls [] p = tt
 passable-calls (apply e ∷ cs) p = (passable-words e (p .0), passable-calls cs (p .1))
+passable-calls (pickSize m ∷ cs) p = passable-calls cs (p .1)
+passable-calls (pickRange m l a b ∷ cs) p = passable-calls cs (p .1)
 passable-calls (newNumber ∷ cs) p = passable-calls cs (p .1)
 passable-calls (reuseNumber n ∷ cs) p = passable-calls cs (p .1)
 passable-calls (markNumber n ∷ cs) p = passable-calls cs (p .1)

@@ -1,1 +1,90 @@
-// Demand 3 carried to the code's calls: its substance is specs/.
+// What each call leaves of a store: that the definition of histories speaks of the calls as the code has them.
+ghost use mathlib.Core.Path.{_≡_};
+ghost use Rattle.histories.specs.History as history;
+ghost use Rattle.histories.specs.History.{called, pickSize, pickRange, newNumber, reuseNumber, markNumber, setLast, setManifest, setPrevious};
+use edits::Edit;
+use keys::FileNumber;
+use keys::Key;
+use keys::SequenceNumber;
+use store::Store;
+
+// The store after an edit.
+pub fn after_edit(s: Store, e: Edit) -> Store
+    ensures { λ r. ⌜ r ≡ called s (history.apply e) ⌝ }
+{
+    let a = apply::apply(s, e);
+    let t = a.store;
+    t
+}
+
+// The store after a size pick.
+pub fn after_size_pick(s: Store, maximum: u64) -> Store
+    ensures { λ r. ⌜ r ≡ called s (pickSize maximum) ⌝ }
+{
+    let a = picks::pick_compaction(s, maximum);
+    let t = a.store;
+    t
+}
+
+// The store after a manual pick.
+pub fn after_manual_pick(s: Store, maximum: u64, level: usize, start: Key, stop: Key) -> Store
+    ensures { λ r. ⌜ r ≡ called s (pickRange maximum level start stop) ⌝ }
+{
+    let a = picks::compact_range(s, maximum, level, start, stop);
+    let t = a.store;
+    t
+}
+
+// The store after a new number.
+pub fn after_new(s: Store) -> Store
+    ensures { λ r. ⌜ r ≡ called s newNumber ⌝ }
+{
+    let a = store::new_file_number(s);
+    let t = a.store;
+    t
+}
+
+// The store after a number is given back.
+pub fn after_reuse(s: Store, n: FileNumber) -> Store
+    ensures { λ r. ⌜ r ≡ called s (reuseNumber n) ⌝ }
+{
+    let a = store::reuse_file_number(s, n);
+    let t = a.store;
+    t
+}
+
+// The store after a number is marked as used.
+pub fn after_mark(s: Store, n: FileNumber) -> Store
+    ensures { λ r. ⌜ r ≡ called s (markNumber n) ⌝ }
+{
+    let a = store::mark_file_number_used(s, n);
+    let t = a.store;
+    t
+}
+
+// The store after the last sequence is set.
+pub fn after_last(s: Store, n: SequenceNumber) -> Store
+    ensures { λ r. ⌜ r ≡ called s (setLast n) ⌝ }
+{
+    let a = store::set_last_sequence(s, n);
+    let t = a.store;
+    t
+}
+
+// The store after the manifest number is set.
+pub fn after_manifest(s: Store, n: FileNumber) -> Store
+    ensures { λ r. ⌜ r ≡ called s (setManifest n) ⌝ }
+{
+    let a = store::set_manifest_number(s, n);
+    let t = a.store;
+    t
+}
+
+// The store after the previous log number is set.
+pub fn after_previous(s: Store, n: FileNumber) -> Store
+    ensures { λ r. ⌜ r ≡ called s (setPrevious n) ⌝ }
+{
+    let a = store::set_previous_log(s, n);
+    let t = a.store;
+    t
+}
