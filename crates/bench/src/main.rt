@@ -1,15 +1,29 @@
-// bench OPERATION FILES REPEATS: does an operation (edit, form, write, read) so many times on a store of so many files, and prints how many were done.
+// bench OPERATION FILES REPEATS: does an operation (edit, form, write, read, pick, manual, overlap, lookup, search, cut, base) so many times on a store of so many files, and prints how many were done.
 ghost use mathlib.Core.Path.{_≡_};
+ghost use mathlib.Core.Bool.{true};
 ghost use Prim.Native.Nat.{_<_, _≤_};
+ghost use Rattle.lists.specs.List.{wellList};
+use answers::Counted;
 use answers::Outcome;
 use edits::Addition;
 use edits::Deletion;
 use edits::Edit;
 use keys::FileNumber;
 use keys::Key;
+use lists::FileList;
+use lookups::Round;
+use picked::Picked;
 use store::Store;
 use store::Stored;
 use writing::Written;
+
+// Sizes of files: too small for work to be due, and large enough.
+const SMALL: u64 = 1000;
+
+const LARGE: u64 = 20971520;
+
+// The maximum file size of picks.
+const MAXIMUM: u64 = 2097152;
 
 fn wide(c: u8) -> u64
     ensures { λ r. ⌜ r ≡ c ⌝ }
@@ -73,12 +87,12 @@ fn cam_key(n: u64) -> Key {
 }
 
 // File i ends before file i + 1 begins.
-fn addition(level: usize, number: u64, i: u64) -> Addition {
+fn addition(level: usize, number: u64, i: u64, size: u64) -> Addition {
     let n = i % 1000;
     Addition {
         level: level,
         number: FileNumber(number),
-        size: 1000,
+        size: size,
         smallest: cam_key(2 * n),
         largest: cam_key(2 * n + 1),
     }
@@ -97,7 +111,7 @@ fn level_of(i: u64, files: u64) -> usize {
 }
 
 // A store of so many files, 64 added at a time.
-fn filled(files: u64) -> Store {
+fn filled(files: u64, size: u64) -> Store {
     let mut s = store::fresh_store();
     let mut i: u64 = 0;
     while i < files % 1000 {
@@ -106,7 +120,7 @@ fn filled(files: u64) -> Store {
         while k < 64 {
             let n = i % 1000 + k;
             if n < files % 1000 {
-                e = e.add(addition(level_of(n, files), 10 + n, n));
+                e = e.add(addition(level_of(n, files), 10 + n, n, size));
             }
             k += 1;
         }
@@ -152,12 +166,12 @@ fn replaced(s: Store, files: u64, k: u64) -> Stored {
         level: 2,
         number: FileNumber(old_number(i, k, width)),
     };
-    let new = addition(2, 1000 + k % 1000000000, i);
+    let new = addition(2, 1000 + k % 1000000000, i, SMALL);
     apply::apply(s, Edit::empty().delete(old).add(new))
 }
 
 fn bench_edit(files: u64, repeats: u64) -> u64 {
-    let mut s = filled(files);
+    let mut s = filled(files, SMALL);
     let mut done: u64 = 0;
     let mut k: u64 = 0;
     while k < repeats {
@@ -174,7 +188,7 @@ fn bench_edit(files: u64, repeats: u64) -> u64 {
 
 // Whether a store is well-formed, so many times.
 fn bench_form(files: u64, repeats: u64) -> u64 {
-    let s = filled(files);
+    let s = filled(files, SMALL);
     let mut done: u64 = 0;
     let mut k: u64 = 0;
     while k < repeats {
@@ -203,7 +217,7 @@ fn length_of(s: Store) -> usize {
 
 // A snapshot written, so many times.
 fn bench_write(files: u64, repeats: u64) -> u64 {
-    let s = filled(files);
+    let s = filled(files, SMALL);
     let mut done: u64 = 0;
     let mut k: u64 = 0;
     while k < repeats {
@@ -224,7 +238,7 @@ fn is_read(bytes: [u8; 25440], length: usize) -> bool {
 
 // A snapshot read, so many times.
 fn bench_read(files: u64, repeats: u64) -> u64 {
-    let s = filled(files);
+    let s = filled(files, SMALL);
     let n = length_of(s);
     let bytes = snapshot(s);
     let mut done: u64 = 0;
@@ -238,27 +252,251 @@ fn bench_read(files: u64, repeats: u64) -> u64 {
     done
 }
 
-fn run(operation: u8, files: u64, repeats: u64) -> u64 {
-    if operation == b'e' {
-        return bench_edit(files, repeats);
+// A size pick, so many times, each on the store that the one before has left.
+fn bench_pick(files: u64, repeats: u64) -> u64 {
+    let mut s = filled(files, LARGE);
+    let mut done: u64 = 0;
+    let mut k: u64 = 0;
+    while k < repeats {
+        let p = picks::pick_compaction(s, MAXIMUM);
+        let o = p.outcome;
+        s = p.store;
+        if is_done(o) {
+            done = (done + 1) % 1000000000;
+        }
+        k += 1;
     }
-    if operation == b'f' {
-        return bench_form(files, repeats);
+    done
+}
+
+// A manual pick at level 2 of the whole range, so many times.
+fn bench_manual(files: u64, repeats: u64) -> u64 {
+    let mut s = filled(files, LARGE);
+    let mut done: u64 = 0;
+    let mut k: u64 = 0;
+    while k < repeats {
+        let p = picks::compact_range(s, MAXIMUM, 2, cam_key(0), cam_key(1999));
+        let o = p.outcome;
+        s = p.store;
+        if is_done(o) {
+            done = (done + 1) % 1000000000;
+        }
+        k += 1;
     }
-    if operation == b'w' {
-        return bench_write(files, repeats);
+    done
+}
+
+// The files of level 2 that overlap one key's range, so many times.
+fn bench_overlap(files: u64, repeats: u64) -> u64 {
+    let s = filled(files, SMALL);
+    let mut done: u64 = 0;
+    let mut k: u64 = 0;
+    while k < repeats {
+        let l = ranges::overlapping_inputs(s, 2, cam_key(k % 1000), cam_key(k % 1000));
+        let o = l.outcome;
+        if is_done(o) {
+            done = (done + 1) % 1000000000;
+        }
+        k += 1;
     }
-    if operation == b'r' {
-        return bench_read(files, repeats);
+    done
+}
+
+// The list of level 2.
+fn level_two(s: Store) -> FileList {
+    let l = lists::level_files(s, 2);
+    l.list
+}
+
+fn is_filled(c: Counted) -> bool {
+    match c {
+        Counted::Filled(n) => true,
+        Counted::Refused(n) => false,
+    }
+}
+
+// The file of a list that may hold a key; the list is tested each time.
+fn look_up(l: FileList, key: Key) -> bool {
+    let mut out = [0u64; 4];
+    let n = l.count;
+    if 256 < n {
+        return false;
+    }
+    let files = l.files;
+    is_filled(lookups::look_up_of(2, files, n, key, &mut out))
+}
+
+// A lookup in level 2, so many times.
+fn bench_lookup(files: u64, repeats: u64) -> u64 {
+    let s = filled(files, SMALL);
+    let l = level_two(s);
+    let mut done: u64 = 0;
+    let mut k: u64 = 0;
+    while k < repeats {
+        if look_up(l, cam_key(k % 1000)) {
+            done = (done + 1) % 1000000000;
+        }
+        k += 1;
+    }
+    done
+}
+
+// How many of the searches that are left are asked in one round: at most 1000.
+fn round_length(left: u64) -> u64
+    requires { ⌜ 0 < left ⌝ }
+    ensures { λ r. ⌜ (0 < r) × ((r ≤ 1000) × (r ≤ left)) ⌝ }
+{
+    if 1000 < left {
+        return 1000;
+    }
+    left
+}
+
+// A round of two keys; each round has others.
+fn round_of(k: u64, length: u64) -> Round
+    requires { ⌜ length ≤ 1000 ⌝ }
+    ensures { λ r. ⌜ (r .left ≡ length) × (r .sum ≡ 0) ⌝ }
+{
+    let n = k / 1000 % 2000;
+    Round {
+        next: cam_key(37 * n % 2000),
+        after: cam_key(n),
+        left: length as usize,
+        sum: 0,
+    }
+}
+
+// A round of searches in a list that was tested before; whether the places found are places of the list.
+fn search_round(l: FileList, k: u64, length: u64) -> bool
+    requires { ⌜ (wellList 2 l ≡ true) × (length ≤ 1000) ⌝ }
+{
+    let files = l.files;
+    let n = l.count;
+    let sum = lookups::find_many(files, n, round_of(k, length));
+    sum <= n % 1000 * 1000
+}
+
+// So many searches in a list that was tested before, which is lent once for each round.
+fn search_rounds(l: FileList, repeats: u64) -> u64
+    requires { ⌜ wellList 2 l ≡ true ⌝ }
+{
+    let mut done: u64 = 0;
+    let mut k: u64 = 0;
+    while k < repeats {
+        let length = round_length(repeats - k);
+        if search_round(l, k, length) {
+            done = (done + length) % 1000000000;
+        }
+        k += length;
+    }
+    done
+}
+
+// A lookup by halves in level 2, so many times; the list is tested once.
+fn bench_search(files: u64, repeats: u64) -> u64 {
+    let s = filled(files, SMALL);
+    let l = level_two(s);
+    if lists::is_well_formed(2, l) {
+        return search_rounds(l, repeats);
     }
     0
 }
 
+// A base-level question, so many times.
+fn bench_base(files: u64, repeats: u64) -> u64 {
+    let s = filled(files, SMALL);
+    let mut memory = questions::nothing_asked();
+    let mut done: u64 = 0;
+    let mut k: u64 = 0;
+    while k < repeats {
+        let u = keys::user_key(cam_key(1000));
+        let b = questions::is_base_level_for(s, 1, memory, u);
+        let o = b.outcome;
+        memory = b.memory;
+        if is_done(o) {
+            done = (done + 1) % 1000000000;
+        }
+        k += 1;
+    }
+    done
+}
+
+// What a manual pick at level 1 of the whole range takes.
+fn picked_of(files: u64) -> Picked {
+    let s = filled(files, LARGE);
+    let p = picks::compact_range(s, MAXIMUM, 1, cam_key(0), cam_key(1999));
+    p.picked
+}
+
+// A key put to the cutter of a pick, so many times.
+fn bench_cut(files: u64, repeats: u64) -> u64 {
+    let c = picked_of(files);
+    let mut memory = cutter::fresh_cutter();
+    let mut done: u64 = 0;
+    let mut k: u64 = 0;
+    while k < repeats {
+        let r = cutter::step(c, memory, cam_key(k % 1000));
+        let o = r.outcome;
+        memory = r.memory;
+        if is_done(o) {
+            done = (done + 1) % 1000000000;
+        }
+        k += 1;
+    }
+    done
+}
+
+fn is_operation(word: &[u8], n: usize, text: &[u8]) -> bool {
+    words::is_word(word, 0, n, text)
+}
+
+// Picks and questions.
+fn run_more(word: &[u8], n: usize, files: u64, repeats: u64) -> u64 {
+    if is_operation(word, n, b"pick") {
+        return bench_pick(files, repeats);
+    }
+    if is_operation(word, n, b"manual") {
+        return bench_manual(files, repeats);
+    }
+    if is_operation(word, n, b"overlap") {
+        return bench_overlap(files, repeats);
+    }
+    if is_operation(word, n, b"lookup") {
+        return bench_lookup(files, repeats);
+    }
+    if is_operation(word, n, b"search") {
+        return bench_search(files, repeats);
+    }
+    if is_operation(word, n, b"base") {
+        return bench_base(files, repeats);
+    }
+    if is_operation(word, n, b"cut") {
+        return bench_cut(files, repeats);
+    }
+    0
+}
+
+fn run(word: &[u8], n: usize, files: u64, repeats: u64) -> u64 {
+    if is_operation(word, n, b"edit") {
+        return bench_edit(files, repeats);
+    }
+    if is_operation(word, n, b"form") {
+        return bench_form(files, repeats);
+    }
+    if is_operation(word, n, b"write") {
+        return bench_write(files, repeats);
+    }
+    if is_operation(word, n, b"read") {
+        return bench_read(files, repeats);
+    }
+    run_more(word, n, files, repeats)
+}
+
 fn main() {
     let mut word = io::buffer();
-    os::arg(1, &mut word);
+    let n = os::arg(1, &mut word);
     let files = arg_number(2);
     let repeats = arg_number(3);
-    io::print_decimal(1, run(word[0], files, repeats));
+    io::print_decimal(1, run(&word, n, files, repeats));
     io::write_all(1, b"\n");
 }

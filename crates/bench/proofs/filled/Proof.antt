@@ -5,16 +5,16 @@ use Rattle.bench.proofs.filled.Statement.{statement}
 use Rattle.bench.proofs.filled.Tie as tie
 
 abbrev Inv-loop2 : tie.InvT-loop2
-Inv-loop2 files s i e₀ k₀ e k = (k ≤ 64) × (i ≤ 2000)
+Inv-loop2 files size s i e₀ k₀ e k = (k ≤ 64) × (i ≤ 2000)
 
 abbrev μ-loop2 : tie.MeasureT-loop2
-μ-loop2 files s i e₀ k₀ e k = 64 - k
+μ-loop2 files size s i e₀ k₀ e k = 64 - k
 
 abbrev Inv-loop : tie.InvT-loop
-Inv-loop files s₀ i₀ s i = i ≤ 1064
+Inv-loop files size s₀ i₀ s i = i ≤ 1064
 
 abbrev μ-loop : tie.MeasureT-loop
-μ-loop files s₀ i₀ s i = 1064 - i
+μ-loop files size s₀ i₀ s i = 1064 - i
 
 fresh-store-requires : tie.Need-fresh-store-requires Inv-loop2 μ-loop2 Inv-loop μ-loop
 fresh-store-requires c κs = search needs

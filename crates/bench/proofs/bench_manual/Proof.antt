@@ -1,0 +1,64 @@
+-- `bench::bench_manual` ends and is safe. Assumes nothing.
+use Prim.Native.Nat.{_≤_, _<_, _+_, _-_}
+use borrow.Author.Needs.{needs}
+use mathlib.Core.Logic.{⊎-elim}
+use native.Mathlib.Omega.{arith}
+use Rattle.bench.proofs.bench_manual.Statement.{statement}
+use Rattle.bench.proofs.bench_manual.Tie as tie
+
+abbrev Inv-loop : tie.InvT-loop
+Inv-loop files repeats s₀ done₀ k₀ s done k = (k ≤ repeats) × (done < 1000000000)
+
+abbrev μ-loop : tie.MeasureT-loop
+μ-loop files repeats s₀ done₀ k₀ s done k = repeats - k
+
+filled-requires : tie.Need-filled-requires Inv-loop μ-loop
+filled-requires c κs = search needs
+
+loop-holds : tie.Need-loop-holds Inv-loop μ-loop
+loop-holds c = search needs
+
+cam-key-requires : tie.Need-cam-key-requires Inv-loop μ-loop
+cam-key-requires c κs = search needs
+
+cam-key-requires-2 : tie.Need-cam-key-requires-2 Inv-loop μ-loop
+cam-key-requires-2 c κs = search needs
+
+compact-range-requires : tie.Need-compact-range-requires Inv-loop μ-loop
+compact-range-requires c κs = search needs
+
+is-done-requires : tie.Need-is-done-requires Inv-loop μ-loop
+is-done-requires c κs = search needs
+
+add-done : tie.Need-add-done Inv-loop μ-loop
+add-done c = search needs
+
+add-k : tie.Need-add-k Inv-loop μ-loop
+add-k c = search needs
+
+loop-less : tie.Need-loop-less Inv-loop μ-loop
+loop-less c = search needs
+
+loop-again : tie.Need-loop-again Inv-loop μ-loop
+loop-again c = ⊎-elim (λ w. (omega arith, omega arith)) (λ w. (omega arith, omega arith)) (c .if1 .came)
+
+returns : tie.Need-returns Inv-loop μ-loop
+returns c = search needs
+
+pub bench-manual-spec : {M : Type 1} → statement M
+bench-manual-spec =
+    tie.close
+    (tie.spec
+    Inv-loop
+    μ-loop
+    filled-requires
+    loop-holds
+    cam-key-requires
+    cam-key-requires-2
+    compact-range-requires
+    is-done-requires
+    add-done
+    add-k
+    loop-less
+    loop-again
+    returns)
