@@ -1,0 +1,62 @@
+-- `words::is_hex` is safe and ends. Assumes nothing.
+use Prim.Native.Nat.{_-_}
+use borrow.Author.Needs.{needs}
+use Rattle.words.proofs.is_hex.Statement.{statement}
+use Rattle.words.proofs.is_hex.Tie as tie
+
+abbrev Inv-loop : tie.InvT-loop
+Inv-loop line from to i₀ i = Unit {0}
+
+abbrev μ-loop : tie.MeasureT-loop
+μ-loop line from to i₀ i = to - i
+
+returns : tie.Need-returns Inv-loop μ-loop
+returns c = search needs
+
+sub-if2 : tie.Need-sub-if2 Inv-loop μ-loop
+sub-if2 c = search needs
+
+returns-2 : tie.Need-returns-2 Inv-loop μ-loop
+returns-2 c = search needs
+
+loop-holds : tie.Need-loop-holds Inv-loop μ-loop
+loop-holds c = tt
+
+byte-at-requires : tie.Need-byte-at-requires Inv-loop μ-loop
+byte-at-requires c κs = search needs
+
+hex-digit-requires : tie.Need-hex-digit-requires Inv-loop μ-loop
+hex-digit-requires c κs = search needs
+
+returns-3 : tie.Need-returns-3 Inv-loop μ-loop
+returns-3 c = search needs
+
+add-i : tie.Need-add-i Inv-loop μ-loop
+add-i c = search needs
+
+loop-less : tie.Need-loop-less Inv-loop μ-loop
+loop-less c = search needs
+
+loop-again : tie.Need-loop-again Inv-loop μ-loop
+loop-again c = tt
+
+returns-4 : tie.Need-returns-4 Inv-loop μ-loop
+returns-4 c = search needs
+
+pub is-hex-spec : {M : Type 1} → statement M
+is-hex-spec =
+    tie.close
+    (tie.spec
+    Inv-loop
+    μ-loop
+    returns
+    sub-if2
+    returns-2
+    loop-holds
+    byte-at-requires
+    hex-digit-requires
+    returns-3
+    add-i
+    loop-less
+    loop-again
+    returns-4)
