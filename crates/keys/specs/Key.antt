@@ -1,16 +1,15 @@
 -- What the records of keys stand for: lists of bytes, as the model has them. Assumes nothing.
 use Prim.Native.Nat.{ℕ, _+_, _-_}
-use mathlib.Core.Bool.{Bool, true, false, _&&_, cond}
-use mathlib.Core.List.{List, [], _∷_, _++_}
-use lib.Dec.{ltb, leb, eqb}
+use mathlib.Core.Bool.{Bool, _&&_, cond}
+use mathlib.Core.List.{List, [], _++_}
+use lib.Dec.{ltb, leb}
 use lib.ListN.{length, take, drop, replicate}
 use Rattle.lemmas.specs.Lists.{all}
 use Rattle.model.specs.Key as model
-use Rattle.model.specs.File.{full}
 use Rattle.keys.specs.declared.Key.{Key}
 use Rattle.keys.specs.declared.UserKey.{UserKey}
-use Rattle.keys.specs.declared.Order.{Order}
-use Rattle.keys.specs.declared.Order.the-variants.{Less, Equal, Greater}
+-- a zero byte, for the crates above
+unfoldable pub use Rattle.octets.specs.Octets.{isZero}
 
 -- the bytes that a record holds: the first `len` of its room. A length beyond the room leaves none, so that the record is seen as no key
 unfoldable pub held : ℕ → List ℕ → ℕ → List ℕ
@@ -36,10 +35,6 @@ keyRecord k = record { bytes = padded 40 k; len = length k }
 unfoldable pub userRecord : List ℕ → UserKey
 userRecord u = record { bytes = padded 32 u; len = length u }
 
--- a zero byte
-unfoldable pub isZero : ℕ → Bool
-isZero b = eqb b 0
-
 -- a length within the room, and zeros past the end
 unfoldable pub sound : ℕ → List ℕ → ℕ → Bool
 sound room bytes len = leb len room && all isZero (drop len bytes)
@@ -52,19 +47,9 @@ soundKey k = sound 40 (k .bytes) (k .len)
 unfoldable pub soundUser : UserKey → Bool
 soundUser u = sound 32 (u .bytes) (u .len)
 
--- how two things stand by an order that is given as a test
-unfoldable pub standing : {A : Type 0} → (A → A → Bool) → A → A → Order
-standing lt a b = cond (lt a b) Less (cond (lt b a) Greater Equal)
-
 -- the larger number first
 unfoldable pub larger : ℕ → ℕ → Bool
 larger a b = ltb b a
-
--- the answer says that the first comes first
-unfoldable pub less : Order → Bool
-less Less = true
-less Equal = false
-less Greater = false
 
 -- one list laid at the start of another, as much of it as there is room for
 unfoldable pub laid : List ℕ → List ℕ → List ℕ

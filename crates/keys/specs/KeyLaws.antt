@@ -15,13 +15,15 @@ use Rattle.lemmas.specs.ListLaws.{and-left, and-right, both}
 use Rattle.lemmas.specs.Fronts.{front-front}
 use Rattle.lemmas.specs.AreBytes.{bytes-take, bytes-at}
 use Rattle.lemmas.specs.Little.{number, number-drop}
-use Rattle.lemmas.specs.Order.{StrictWeak, asym, byFirst}
+use Rattle.lemmas.specs.Order.{byFirst}
 use Rattle.model.specs.Key as model
 use Rattle.model.specs.File.{full}
 use Rattle.keys.specs.declared.Key.{Key}
 use Rattle.keys.specs.declared.UserKey.{UserKey}
-use Rattle.keys.specs.declared.Order.the-variants.{Less, Equal, Greater}
-use Rattle.keys.specs.Key.{held, keyOf, userOf, padded, keyRecord, userRecord, isZero, sound, soundKey, soundUser, standing, larger, less, laid}
+use Rattle.octets.specs.declared.Order.the-variants.{Less, Equal, Greater}
+use Rattle.octets.specs.Octets.{isZero, standing}
+use Rattle.octets.specs.Standing.{stands-less, stands-greater, standing-less, standing-equal, standing-greater}
+use Rattle.keys.specs.Key.{held, keyOf, userOf, padded, keyRecord, userRecord, sound, soundKey, soundUser, larger, laid}
 
 -- ---- what a record holds
 module _ (room : ℕ) (bytes : List ℕ) (len : ℕ) where
@@ -310,66 +312,6 @@ user-good longest x g =
     both (leb 1 (length u) && leb (length u) longest) (areBytes u)
     (both (leb 1 (length u)) (leb (length u) longest) (le-leb 1 (length u) (omega (arith, s .long))) (le-leb (length u) longest (omega (arith, s .short))))
     (bytes-take (length x - 8) x (s .of-bytes))
-
--- ---- how two things stand
-module _ {A : Type 0} (lt : A → A → Bool) (a b : A) where
-  -- from the order to the standing: the first before the second
-  pub stands-less : lt a b ≡ true → standing lt a b ≡ Less
-  unfolding standing
-  stands-less e = rw e
-
-  -- the second before the first
-  pub stands-greater : lt a b ≡ false → lt b a ≡ true → standing lt a b ≡ Greater
-  unfolding standing
-  stands-greater e f = rw (e, f)
-
-  -- neither before the other
-  pub stands-equal : lt a b ≡ false → lt b a ≡ false → standing lt a b ≡ Equal
-  unfolding standing
-  stands-equal e f = rw (e, f)
-
-  -- from the standing to the order: whether the first is before the second
-  pub less-standing : less (standing lt a b) ≡ lt a b
-  unfolding standing less
-  less-standing = go (lt a b) (lt b a)
-    where
-      go : (s t : Bool) → less (cond s Less (cond t Greater Equal)) ≡ s
-      go true t = refl
-      go false true = refl
-      go false false = refl
-
-  -- `Less`: the first is before the second
-  pub standing-less : standing lt a b ≡ Less → lt a b ≡ true
-  unfolding less
-  standing-less e = sym less-standing ∙ ap less e
-
-  -- `Equal`: neither is before the other
-  pub standing-equal : standing lt a b ≡ Equal → (lt a b ≡ false) × (lt b a ≡ false)
-  standing-equal e = go (lt a b) (lt b a) refl refl
-    where
-      go : (s t : Bool) → lt a b ≡ s → lt b a ≡ t → (lt a b ≡ false) × (lt b a ≡ false)
-      go true t p q = let z : _≡_ {A = ℕ} 0 1 = cc (e, stands-less p) in absurd (omega arith)
-      go false true p q = let z : _≡_ {A = ℕ} 0 1 = cc (e, stands-greater p q) in absurd (omega arith)
-      go false false p q = (p, q)
-
-  -- `Greater`: the second is before the first
-  pub standing-greater : standing lt a b ≡ Greater → (lt a b ≡ false) × (lt b a ≡ true)
-  standing-greater e = go (lt a b) (lt b a) refl refl
-    where
-      go : (s t : Bool) → lt a b ≡ s → lt b a ≡ t → (lt a b ≡ false) × (lt b a ≡ true)
-      go true t p q = let z : _≡_ {A = ℕ} 0 1 = cc (e, stands-less p) in absurd (omega arith)
-      go false true p q = (p, q)
-      go false false p q = let z : _≡_ {A = ℕ} 0 1 = cc (e, stands-equal p q) in absurd (omega arith)
-
--- by an order, one answer says what the other way round is too
-module _ {A : Type 0} (lt : A → A → Bool) (o : StrictWeak lt) (a b : A) where
-  -- `Less`: and the second is not before the first
-  pub standing-before : standing lt a b ≡ Less → (lt a b ≡ true) × (lt b a ≡ false)
-  standing-before e = let h = standing-less lt a b e in (h, asym lt o a b h)
-
-  -- the second before the first is enough for `Greater`
-  pub stands-after : lt b a ≡ true → standing lt a b ≡ Greater
-  stands-after h = stands-greater lt a b (asym lt o b a h) h
 
 -- ---- how two internal keys stand: by their user keys, then the larger rank first
 module _ (a b : List ℕ) where

@@ -1,20 +1,19 @@
 // Internal keys, user keys and the two kinds of numbers, by value. Every function answers for every record, whatever its length says.
 ghost use mathlib.Core.Path.{_≡_};
-ghost use Prim.Native.Nat.{_+_, _-_, _≤_, _<_, min};
 ghost use mathlib.Core.Bool.{cond};
 ghost use mathlib.Core.List.{[]};
 ghost use lib.Dec.{leb};
-ghost use lib.ListN.{length, take, drop};
-ghost use Rattle.lemmas.specs.Order.{lexb};
+ghost use lib.ListN.{length};
 ghost use Rattle.lemmas.specs.Lists.{all};
-ghost use Rattle.lemmas.specs.Big.{big};
 ghost use Rattle.model.specs.Key as model;
 ghost use Rattle.model.specs.Calls.{compareKeys, parseKey};
 ghost use Rattle.model.specs.File.{full};
-ghost use Rattle.keys.specs.Key.{keyOf, userOf, keyRecord, userRecord, soundKey, soundUser, isZero, standing, larger, less, laid};
+ghost use Rattle.octets.specs.Octets.{standing, isZero};
+ghost use Rattle.keys.specs.Key.{keyOf, userOf, keyRecord, userRecord, soundKey, soundUser, larger, laid};
 ghost use Rattle.keys.specs.KeyCalls.{comparedOf, parsed};
 use answers::Outcome;
 use answers::Refusal;
+use octets::Order;
 
 // The number of a table file. No call takes it where a sequence number is meant.
 pub struct FileNumber(pub u64);
@@ -46,86 +45,11 @@ impl UserKey {
     pub const ROOM: usize = 32;
 }
 
-// How two keys stand.
-pub enum Order {
-    Less,
-    Equal,
-    Greater,
-}
-
 // The key of no bytes, as empty places hold it.
 pub const BLANK_KEY: Key = Key {
     bytes: [0u8; 40],
     len: 0,
 };
-
-// A byte as a number of 64 bits.
-fn wide(x: u8) -> u64
-    ensures { λ r. ⌜ r ≡ x ⌝ }
-{
-    x as u64
-}
-
-// The lesser of two places.
-fn lesser(m: usize, n: usize) -> usize
-    ensures { λ r. ⌜ r ≡ min m n ⌝ }
-{
-    if n < m { n } else { m }
-}
-
-// The eight bytes from a place on as one number, the first byte the greatest.
-fn word(a: &[u8], at: usize) -> u64
-    requires { ⌜ at + 8 ≤ length (now a) ⌝ }
-    ensures { λ r. ⌜ r ≡ big 0 (take 8 (drop at (now (a .entry)))) ⌝ }
-{
-    let mut x: u64 = 0;
-    let mut i: usize = 0;
-    while i < 8 {
-        x = x * 256 + wide(a[at + i]);
-        i += 1;
-    }
-    x
-}
-
-// The order of two lists of bytes: by the first that differs, a proper prefix first. Eight bytes are compared at once, the last eight of both again where fewer are left.
-pub fn lex_order(a: &[u8], b: &[u8]) -> Order
-    ensures { λ r. ⌜ r ≡ standing lexb (now (a .entry)) (now (b .entry)) ⌝ }
-{
-    let m = a.len();
-    let n = b.len();
-    let both = lesser(m, n);
-    let mut i: usize = 0;
-    while 8 <= both && i < both {
-        let at = lesser(i, both - 8);
-        let x = word(a, at);
-        let y = word(b, at);
-        if x < y {
-            return Order::Less;
-        }
-        if y < x {
-            return Order::Greater;
-        }
-        i = at + 8;
-    }
-    while i < m {
-        if n <= i {
-            return Order::Greater;
-        }
-        let x = a[i];
-        let y = b[i];
-        if x < y {
-            return Order::Less;
-        }
-        if y < x {
-            return Order::Greater;
-        }
-        i += 1;
-    }
-    if i < n {
-        return Order::Less;
-    }
-    Order::Equal
-}
 
 // How many bytes a record of this length holds: none where the length is beyond the room.
 fn held_len(len: usize, room: usize) -> usize
@@ -168,7 +92,8 @@ pub fn kind(k: Key) -> u8
         return 0;
     }
     let at = user_len(k);
-    k.bytes[at]
+    let x = k.bytes;
+    octets::byte(&x, at)
 }
 
 // The sequence of a key: the trailer without its lowest byte.
@@ -180,7 +105,7 @@ pub fn sequence(k: Key) -> SequenceNumber
     let mut s: u64 = 0;
     while stop < j {
         j -= 1;
-        s = s * 256 + wide(k.bytes[j]);
+        s = s * 256 + octets::wide(k.bytes[j]);
     }
     SequenceNumber(s)
 }
@@ -228,7 +153,7 @@ pub fn order_of_users(a: Key, b: Key) -> Order
     let n = user_len(b);
     let x = a.bytes;
     let y = b.bytes;
-    lex_order(&x[0..m], &y[0..n])
+    octets::order_of(&x, m, &y, n)
 }
 
 // The order of a user key and the user key of an internal key.
@@ -239,7 +164,7 @@ pub fn order_of_user(u: UserKey, k: Key) -> Order
     let n = user_len(k);
     let x = u.bytes;
     let y = k.bytes;
-    lex_order(&x[0..m], &y[0..n])
+    octets::order_of(&x, m, &y, n)
 }
 
 // The order of two user keys.
@@ -250,7 +175,7 @@ pub fn order_of_user_keys(u: UserKey, v: UserKey) -> Order
     let n = user_key_len(v);
     let x = u.bytes;
     let y = v.bytes;
-    lex_order(&x[0..m], &y[0..n])
+    octets::order_of(&x, m, &y, n)
 }
 
 // The larger number first.
@@ -282,29 +207,18 @@ pub fn order_of_keys(a: Key, b: Key) -> Order
     }
 }
 
-// Whether the answer is that the first comes first.
-fn is_less(o: Order) -> bool
-    ensures { λ r. ⌜ r ≡ less o ⌝ }
-{
-    match o {
-        Order::Less => true,
-        Order::Equal => false,
-        Order::Greater => false,
-    }
-}
-
 // Whether a key is strictly before another.
 pub fn is_before(a: Key, b: Key) -> bool
     ensures { λ r. ⌜ r ≡ model.before (keyOf a) (keyOf b) ⌝ }
 {
-    is_less(order_of_keys(a, b))
+    octets::is_less(order_of_keys(a, b))
 }
 
 // Whether a user key is strictly before the user key of an internal key.
 pub fn user_is_before(u: UserKey, k: Key) -> bool
     ensures { λ r. ⌜ r ≡ model.userBefore (userOf u) (model.user (keyOf k)) ⌝ }
 {
-    is_less(order_of_user(u, k))
+    octets::is_less(order_of_user(u, k))
 }
 
 // Whether a user key is strictly after the user key of an internal key.
@@ -323,7 +237,7 @@ pub fn user_is_after(u: UserKey, k: Key) -> bool
 pub fn user_key_is_before(u: UserKey, v: UserKey) -> bool
     ensures { λ r. ⌜ r ≡ model.userBefore (userOf u) (userOf v) ⌝ }
 {
-    is_less(order_of_user_keys(u, v))
+    octets::is_less(order_of_user_keys(u, v))
 }
 
 // Whether a key has a right length and type.
@@ -354,7 +268,7 @@ pub fn is_sound(k: Key) -> bool
         return false;
     }
     let x = k.bytes;
-    all_zero(&x[n..40])
+    octets::zeros_from(&x, n)
 }
 
 // Whether the record of a user key has its length within its room and zeros past its end.
@@ -366,28 +280,7 @@ pub fn is_sound_user(u: UserKey) -> bool
         return false;
     }
     let x = u.bytes;
-    all_zero(&x[n..32])
-}
-
-// Whether every byte is zero, eight at once.
-fn all_zero(a: &[u8]) -> bool
-    ensures { λ r. ⌜ r ≡ all isZero (now (a .entry)) ⌝ }
-{
-    let n = a.len();
-    let mut i: usize = 0;
-    while 8 <= n - i {
-        if word(a, i) != 0 {
-            return false;
-        }
-        i += 8;
-    }
-    while i < n {
-        if a[i] != 0 {
-            return false;
-        }
-        i += 1;
-    }
-    true
+    octets::zeros_from(&x, n)
 }
 
 // Whether zeros stand in all the room of a key's record. No early end, so that many bytes are tested at once.

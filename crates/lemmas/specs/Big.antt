@@ -1,14 +1,19 @@
--- Big-endian numbers: lists of bytes of one length stand in the order of the numbers that they are, so that several bytes are compared at once. Assumes nothing.
-use Prim.Native.Nat.{ℕ, zero, suc, _+_, _*_, _<_}
+-- Big-endian numbers: lists of bytes of one length stand in the order of the numbers that they are, so that several bytes are compared at once; parts of a number
+-- are those of its bytes. Assumes nothing.
+use Prim.Native.Nat.{ℕ, zero, suc, _+_, _-_, _*_, _/_, _%_, _^_, _≤_, _<_}
 use mathlib.Core.Path.{_≡_, refl, sym, ap, _∙_}
 use mathlib.Core.Bool.{Bool, true, false, _&&_}
-use mathlib.Core.List.{List, [], _∷_}
+use mathlib.Core.List.{List, [], _∷_, _++_}
 use native.Mathlib.Omega.{arith}
+use native.Mathlib.Nat.{one-le-pow, pow-succ', pow-suc, mul-assoc, add-mul, mul-lt-mul-of-pos-right}
+use native.Mathlib.Numerals.{add-one}
+use lib.Arith.{digits-lt, digits-div, digits-mod}
 use lib.Dec.{ltb, eqb}
-use lib.ListN.{length, take, drop, take-append-drop}
-use lib.Seq.{drop-drop}
-use lib.Pow.{areBytes}
+use lib.ListN.{length, getD, take, drop, length-drop, take-append-drop}
+use lib.Seq.{drop-drop, take-suc}
+use lib.Pow.{areBytes, pow-add}
 use borrow.Author.Tests.{lt-ltb, le-ltb, ltb-true, ltb-false, eqb-true}
+use Rattle.lemmas.specs.AreBytes.{bytes-at, bytes-drop}
 use Rattle.lemmas.specs.ListLaws.{and-left, and-right}
 use Rattle.lemmas.specs.Lists.{all}
 use Rattle.lemmas.specs.Maps.{all-append}
@@ -94,3 +99,68 @@ module _ (n i : ℕ) (a : List ℕ) where
       go : (t : Bool) → zeros (take n (drop i a)) ≡ t → zeros (drop i a) ≡ false
       go true h = absurd (e (zeros-big (take n (drop i a)) h))
       go false h = in-two ∙ rw h
+
+-- ---- parts of a number: its first bytes, the others, one of them
+-- what a number goes on from stands above its bytes
+big-from : (x : ℕ) (a : List ℕ) → big x a ≡ x * 256 ^ length a + big 0 a
+unfolding big
+big-from x [] = omega arith
+big-from x (c ∷ a) =
+    let p = 256 ^ length a in
+    let up : x * 256 ^ suc (length a) ≡ x * 256 * p = ap (λ (z : ℕ). x * z) (pow-succ' 256 (length a)) ∙ sym (mul-assoc x 256 p) in
+    omega (arith, big-from (x * 256 + c) a, big-from (0 * 256 + c) a, add-mul (x * 256) c p, add-mul (0 * 256) c p)
+
+-- a number by its first bytes and the others
+pub big-append : (x : ℕ) (a b : List ℕ) → big x (a ++ b) ≡ big x a * 256 ^ length b + big 0 b
+unfolding big
+big-append x [] b = big-from x b
+big-append x (c ∷ a) b = big-append (x * 256 + c) a b
+
+-- a number of bytes is below the power of its width
+pub big-bound : (a : List ℕ) → areBytes a ≡ true → big 0 a < 256 ^ length a
+unfolding big
+big-bound [] h = omega arith
+big-bound (c ∷ a) h =
+    let p = 256 ^ length a in
+    let below : c * p + big 0 a < 256 * p = digits-lt (first-byte c a h) (big-bound a (other-bytes c a h)) in
+    omega (arith, big-from (0 * 256 + c) a, pow-succ' 256 (length a), add-mul (0 * 256) c p)
+
+module _ (c : ℕ) (l : List ℕ) (h : areBytes l ≡ true) where
+  -- in two parts, the lower one below the power of its width
+  parted : big 0 l ≡ big 0 (take c l) * 256 ^ (length l - c) + big 0 (drop c l)
+  parted =
+      ap (big 0) (sym (take-append-drop c l)) ∙ big-append 0 (take c l) (drop c l)
+      ∙ ap (λ (n : ℕ). big 0 (take c l) * 256 ^ n + big 0 (drop c l)) (length-drop c l)
+
+  rest-bound : big 0 (drop c l) < 256 ^ (length l - c)
+  rest-bound = rw (← length-drop c l) (big-bound (drop c l) (bytes-drop c l h))
+
+  -- the first bytes: the others are divided away
+  pub big-front : big 0 l / 256 ^ (length l - c) ≡ big 0 (take c l)
+  big-front = ap (λ (z : ℕ). z / 256 ^ (length l - c)) parted ∙ digits-div (big 0 (take c l)) rest-bound
+
+  -- the others: the first bytes are multiplied away
+  pub big-rest : c ≤ length l → big 0 l * 256 ^ c % 256 ^ length l ≡ big 0 (drop c l) * 256 ^ c
+  big-rest k =
+      let w : 256 ^ length l ≡ 256 ^ (length l - c) * 256 ^ c = ap (λ (n : ℕ). 256 ^ n) (omega arith) ∙ pow-add 256 (length l - c) c in
+      let above = big 0 (take c l) in
+      let e : big 0 l * 256 ^ c ≡ above * 256 ^ length l + big 0 (drop c l) * 256 ^ c =
+      ap (λ (z : ℕ). z * 256 ^ c) parted ∙ add-mul (above * 256 ^ (length l - c)) (big 0 (drop c l)) (256 ^ c)
+      ∙ ap (λ (z : ℕ). z + big 0 (drop c l) * 256 ^ c) (mul-assoc above (256 ^ (length l - c)) (256 ^ c) ∙ ap (λ (z : ℕ). above * z) (sym w)) in
+      let below : big 0 (drop c l) * 256 ^ c < 256 ^ length l = rw w (mul-lt-mul-of-pos-right rest-bound (one-le-pow c 256 (omega arith))) in
+      ap (λ (z : ℕ). z % 256 ^ length l) e ∙ digits-mod above below
+
+-- one byte
+pub big-byte : (c : ℕ) (l : List ℕ) → areBytes l ≡ true → c < length l → big 0 l / 256 ^ (length l - (c + 1)) % 256 ≡ getD l c 0
+unfolding big
+big-byte c l h k =
+    let b = getD l c 0 in
+    let last : big 0 (take (c + 1) l) ≡ big 0 (take c l) * 256 + b = rw (add-one c, take-suc l c 0 k) (omega (arith, big-append 0 (take c l) (b ∷ []))) in
+    ap (λ (z : ℕ). z % 256) (big-front (c + 1) l h ∙ last) ∙ digits-mod (big 0 (take c l)) (bytes-at l c h)
+
+-- so many bytes as bits
+pub byte-bits : (n : ℕ) → 2 ^ (8 * n) ≡ 256 ^ n
+byte-bits zero = refl
+byte-bits (suc n) =
+    let e : 8 * suc n ≡ 8 * n + 8 = omega arith in
+    ap (λ (k : ℕ). 2 ^ k) e ∙ pow-add 2 (8 * n) 8 ∙ ap (λ (z : ℕ). z * 2 ^ 8) (byte-bits n) ∙ sym (pow-suc 256 n)

@@ -4,8 +4,8 @@ use mathlib.Core.Path.{_≡_, sym, _∙_, ap}
 use mathlib.Core.List.{List, [], _∷_, _++_}
 use native.Mathlib.Numerals.{add-one}
 use native.Mathlib.Omega.{arith}
-use lib.ListN.{length, getD, take, drop, set, length-take, length-drop}
-use lib.Seq.{take-take, take-all, take-suc, set-at, append-snoc}
+use lib.ListN.{length, getD, take, drop, set, length-take}
+use lib.Seq.{take-take, take-suc, set-at, append-snoc}
 use Rattle.lemmas.specs.Slices.{rest-cons}
 
 module _ {A : Type 0} where
@@ -15,15 +15,13 @@ module _ {A : Type 0} where
       let m : length (take n l) ≡ n = omega (arith, length-take n l) in
       rw m (ap (take n) e ∙ take-take n (length l) whole h)
 
-  -- the part from 0 to n, where n is the front's length
-  pub front-lent : (l whole : List A) (n : ℕ) → l ≡ take (length l) whole → n ≡ length l → take (n - 0) whole ≡ l
-  front-lent l whole n h e =
-      let m : n - 0 ≡ length l = omega arith in
-      rw m (sym h)
+  -- the first n, where n is the front's length
+  pub front-taken : (l whole : List A) (n : ℕ) → l ≡ take (length l) whole → n ≡ length l → take n whole ≡ l
+  front-taken l whole n h e = rw e (sym h)
 
-  -- the part from n to the end
-  pub tail-lent : (whole : List A) (n room : ℕ) → length whole ≡ room → take (room - n) (drop n whole) ≡ drop n whole
-  tail-lent whole n room q = take-all (room - n) (drop n whole) (omega (arith, length-drop n whole))
+  -- the same as the part from 0 to n
+  pub front-lent : (l whole : List A) (n : ℕ) → l ≡ take (length l) whole → n ≡ length l → take (n - 0) whole ≡ l
+  front-lent l whole n h e = front-taken l whole (n - 0) h (omega arith)
 
   -- one element more laid over the front
   pub lay-turn : (src out : List A) (i : ℕ) (d : A) → i < length src → i < length out

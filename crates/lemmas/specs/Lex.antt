@@ -1,16 +1,15 @@
 -- How the dictionary order of two lists goes on from a place up to which they agree: for a loop that compares. Assumes nothing.
-use Prim.Native.Nat.{ℕ, zero, suc, _+_, _≤_, _<_}
+use Prim.Native.Nat.{ℕ, zero, suc, _≤_, _<_}
 use mathlib.Core.Path.{_≡_, refl}
 use mathlib.Core.Bool.{Bool, true, false}
 use mathlib.Core.List.{List, [], _∷_}
 use native.Mathlib.Omega.{arith}
 use lib.Dec.{ltb}
-use lib.ListN.{length, getD, take, drop, drop-of-length-le}
-use borrow.Author.Tests.{lt-ltb, le-ltb}
+use lib.ListN.{length, take, drop, drop-of-length-le}
 use Rattle.lemmas.specs.Order.{lexb, byFirst, clash, nat-order, lex-order}
 use Rattle.lemmas.specs.Slices.{rest-cons}
 
--- "a is before b", from place i on. What they say of "b is before a" is the same with a and b exchanged: `greater b a i k h l` beside `less a b i h k l`
+-- "a is before b", from place i on, where one of them has ended. What they say of "b is before a" is the same with a and b exchanged
 module _ (a b : List ℕ) (i : ℕ) where
   -- both have ended
   pub both-end : length a ≤ i → length b ≤ i → lexb (drop i a) (drop i b) ≡ false
@@ -30,22 +29,6 @@ module _ (a b : List ℕ) (i : ℕ) where
       nothing-before : (l : List ℕ) → lexb l [] ≡ false
       nothing-before [] = refl
       nothing-before (x ∷ l) = refl
-
-  module _ (h : i < length a) (k : i < length b) where
-    -- a has the smaller number
-    pub less : getD a i 0 < getD b i 0 → lexb (drop i a) (drop i b) ≡ true
-    unfolding lexb byFirst
-    less l = rw (rest-cons a i 0 h, rest-cons b i 0 k, lt-ltb (getD a i 0) (getD b i 0) l)
-
-    -- a has the larger number
-    pub greater : getD b i 0 < getD a i 0 → lexb (drop i a) (drop i b) ≡ false
-    unfolding lexb byFirst
-    greater l = rw (rest-cons a i 0 h, rest-cons b i 0 k, le-ltb (getD a i 0) (getD b i 0) (omega arith), lt-ltb (getD b i 0) (getD a i 0) l)
-
-    -- the numbers agree
-    pub onward : getD b i 0 ≤ getD a i 0 → getD a i 0 ≤ getD b i 0 → lexb (drop i a) (drop i b) ≡ lexb (drop (i + 1) a) (drop (i + 1) b)
-    unfolding lexb byFirst
-    onward l m = rw (rest-cons a i 0 h, rest-cons b i 0 k, le-ltb (getD a i 0) (getD b i 0) l, le-ltb (getD b i 0) (getD a i 0) m)
 
 -- ---- several numbers at once
 

@@ -1,10 +1,10 @@
-use Prim.Native.Nat.{ℕ, zero, suc, _+_, _*_, _^_, _≤_}
+use Prim.Native.Nat.{ℕ, zero, suc, _+_, _*_, _^_, _≤_, _<_}
 use mathlib.Core.Path.{_≡_, refl, sym, _∙_, subst}
 use mathlib.Core.Logic.{_⊎_, inl, inr}
 use mathlib.Core.Bool.{Bool, cond, true, false, not, _&&_}
 use mathlib.Core.List.{List, [], _∷_, _++_, List·Memᴰ as In, List·Memᴰ·head as here, List·Memᴰ·tail as there, List·Memᴰ·not-nil as not-nil, List·Memᴰ·append-cases as append-cases, Memᴰ·append-left as in-left, Option·toList}
 use mathlib.Core.Option.{Option, none, some, orElse}
-use borrow.Author.Tests.{eqb-true, ltb-true, leb-true, not-false}
+use borrow.Author.Tests.{eqb-true, ltb-true, lt-ltb, leb-true, not-false}
 use lib.Dec.{eqb, ltb}
 use lib.ListN.{length, length-set}
 use native.Mathlib.Omega.{arith}
@@ -96,6 +96,11 @@ pub overlapping-sub : (l : ℕ) (fs : List File) (r : Range) → Sub (overlappin
 unfolding overlapping
 overlapping-sub zero fs r = sub-keep (overlaps (widen fs r)) fs
 overlapping-sub (suc l) fs r = sub-keep (overlaps r) fs
+
+-- a manual pick takes the file that brings the total above M, and none after it
+pub stops-after : (m t : ℕ) (f : File) (fs : List File) → m < t + f .size → upTo m t (f ∷ fs) ≡ f ∷ []
+unfolding upTo
+stops-after m t f fs h = rw (lt-ltb m (t + f .size) h)
 
 -- the files up to a total
 upTo-sub : (m t : ℕ) (fs : List File) → Sub (upTo m t fs) fs

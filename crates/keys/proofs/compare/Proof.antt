@@ -9,7 +9,7 @@ use Rattle.model.specs.File.{full}
 use Rattle.model.specs.Calls.{compareKeys}
 use Rattle.keys.specs.Key.{keyOf}
 use Rattle.keys.specs.KeyCalls.{comparedOf}
-use Rattle.keys.specs.KeyLaws.{standing-less, standing-equal, standing-greater}
+use Rattle.octets.specs.Standing.{standing-less, standing-equal, standing-greater}
 use Rattle.keys.proofs.compare.Statement.{statement}
 use Rattle.keys.proofs.compare.Tie as tie
 

@@ -13,7 +13,7 @@ use Rattle.lemmas.specs.Lists.{all}
 use Rattle.lemmas.specs.ListLaws.{and-true}
 use Rattle.lemmas.specs.Slices.{rest-cons}
 use Rattle.lemmas.specs.Loops.{all-here, all-later}
-use Rattle.keys.specs.Key.{isZero}
+use Rattle.octets.specs.Octets.{isZero}
 use Rattle.keys.proofs.holds_zeros.Statement.{statement}
 use Rattle.keys.proofs.holds_zeros.Tie as tie
 

@@ -2,8 +2,9 @@
 use mathlib.Core.Path.{_∙_, ap}
 use borrow.Author.Needs.{needs}
 use Rattle.model.specs.Key as model
-use Rattle.keys.specs.Key.{keyOf, less}
-use Rattle.keys.specs.KeyLaws.{less-standing}
+use Rattle.octets.specs.Octets.{less}
+use Rattle.octets.specs.Standing.{less-standing}
+use Rattle.keys.specs.Key.{keyOf}
 use Rattle.keys.proofs.is_before.Statement.{statement}
 use Rattle.keys.proofs.is_before.Tie as tie
 

@@ -18,30 +18,42 @@ key-len-requires : tie.Need-key-len-requires
 key-len-requires c κs = search needs
 
 -- the record's bytes are bytes
-bytes-here : (c : tie.Start) → areBytes (c .args .t1 .bytes) ≡ true
-bytes-here c = bytes-all (c .args .t1 .bytes) (λ i. let f : Fits w8 (getD (c .args .t1 .bytes) i 0) = search needs in f .fits)
+bytes-here : (c : tie.Start) → areBytes (c .args .k .bytes) ≡ true
+bytes-here c = bytes-all (c .args .k .bytes) (λ i. let f : Fits w8 (getD (c .args .k .bytes) i 0) = search needs in f .fits)
 
 returns : tie.Need-returns
-returns c = sym (kind-none (keyOf (c .before .before .args .t1)) (omega arith))
+returns c = sym (kind-none (keyOf (c .before .before .args .k)) (omega arith))
 
 user-len-requires : tie.Need-user-len-requires
 user-len-requires c κs = search needs
 
-element-copy-out-result : tie.Need-element-copy-out-result
-element-copy-out-result c =
-    let k = c .before .before .before .args .t1 in
-    omega (arith, user-length (keyOf k), keyOf-length k)
+slice-aggregate-byte : tie.Need-slice-aggregate-byte
+slice-aggregate-byte c = search needs
+
+byte-requires : tie.Need-byte-requires
+byte-requires c κs =
+    let k = c .before .before .before .before .before .args .k in
+    let full : length (k .bytes) ≡ 40 = search needs in
+    (omega (arith, user-length (keyOf k), keyOf-length k), omega arith)
 
 returns-2 : tie.Need-returns-2
 returns-2 c =
-    let s = c .before .before .before .before in
-    let k = s .args .t1 in
+    let u = c .before .before .before in
+    let s = u .before .before .before in
+    let k = s .args .k in
     let full : length (k .bytes) ≡ 40 = search needs in
-    let at : c .before .user-len .result ≡ length (keyOf k) - 8 = omega (arith, user-length (keyOf k)) in
+    let at : u .user-len .result ≡ length (keyOf k) - 8 = omega (arith, user-length (keyOf k)) in
     let some : 0 < length (keyOf k) = omega arith in
-    ap (λ (i : ℕ). getD (k .bytes) i 0) at ∙ sym (kind-at (keyOf k) (keyOf-bytes k (bytes-here s)) some ∙ keyOf-at k full (length (keyOf k) - 8) (omega arith))
+    c .byte .ensures ∙ ap (λ (i : ℕ). getD (k .bytes) i 0) at
+    ∙ sym (kind-at (keyOf k) (keyOf-bytes k (bytes-here s)) some ∙ keyOf-at k full (length (keyOf k) - 8) (omega arith))
 
 pub kind-spec : {M : Type 1} → statement M
 kind-spec =
     tie.close
-    (tie.spec key-len-requires returns user-len-requires element-copy-out-result returns-2)
+    (tie.spec
+    key-len-requires
+    returns
+    user-len-requires
+    slice-aggregate-byte
+    byte-requires
+    returns-2)

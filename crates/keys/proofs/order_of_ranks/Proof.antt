@@ -1,6 +1,7 @@
 -- `keys::order_of_ranks` meets its contract. Assumes nothing.
 use borrow.Author.Tests.{lt-ltb, le-ltb}
-use Rattle.keys.specs.Key.{standing, larger}
+use Rattle.octets.specs.Octets.{standing}
+use Rattle.keys.specs.Key.{larger}
 use Rattle.keys.proofs.order_of_ranks.Statement.{statement}
 use Rattle.keys.proofs.order_of_ranks.Tie as tie
 

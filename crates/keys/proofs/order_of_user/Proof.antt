@@ -3,7 +3,7 @@ use mathlib.Core.Path.{_≡_}
 use native.Mathlib.Omega.{arith}
 use lib.ListN.{length}
 use borrow.Author.Needs.{needs}
-use Rattle.lemmas.specs.Fronts.{front-lent}
+use Rattle.lemmas.specs.Fronts.{front-taken}
 use Rattle.model.specs.Key as model
 use Rattle.keys.specs.Key.{keyOf, userOf}
 use Rattle.keys.specs.KeyLaws.{user-front, user-short, userOf-front, userOf-length}
@@ -16,44 +16,30 @@ user-key-len-requires c κs = search needs
 user-len-requires : tie.Need-user-len-requires
 user-len-requires c κs = search needs
 
-sub-lex-order : tie.Need-sub-lex-order
-sub-lex-order c = search needs
+slice-aggregate-order-of : tie.Need-slice-aggregate-order-of
+slice-aggregate-order-of c = search needs
 
-part-lex-order-start : tie.Need-part-lex-order-start
-part-lex-order-start c = search needs
+slice-aggregate-order-of-2 : tie.Need-slice-aggregate-order-of-2
+slice-aggregate-order-of-2 c = search needs
 
-part-lex-order-end : tie.Need-part-lex-order-end
-part-lex-order-end c =
-    let u = c .before .before .before .before .before .args .u in
-    let full : length (u .bytes) ≡ 32 = search needs in
-    omega (arith, userOf-length u)
-
-sub-lex-order-2 : tie.Need-sub-lex-order-2
-sub-lex-order-2 c = search needs
-
-part-lex-order-start-2 : tie.Need-part-lex-order-start-2
-part-lex-order-start-2 c = search needs
-
-part-lex-order-end-2 : tie.Need-part-lex-order-end-2
-part-lex-order-end-2 c =
-    let k = c .before .before .before .before .before .before .before .args .k in
-    let full : length (k .bytes) ≡ 40 = search needs in
-    omega (arith, user-short k)
-
-lex-order-requires : tie.Need-lex-order-requires
-lex-order-requires c κs = search needs
+order-of-requires : tie.Need-order-of-requires
+order-of-requires c κs =
+    let s = c .before .before .before .before .before .before .args in
+    let full-u : length (s .u .bytes) ≡ 32 = search needs in
+    let full-k : length (s .k .bytes) ≡ 40 = search needs in
+    (omega (arith, userOf-length (s .u)), omega arith, omega (arith, user-short (s .k)), omega arith)
 
 returns : tie.Need-returns
 unfolding model.userBefore
 returns c =
-    let s = c .before .before .before .before .before .before .before .before .before in
-    let u = s .args .u in
-    let k = s .args .k in
+    let p = c .before .before .before .before .before .before in
+    let u = p .before .args .u in
+    let k = p .before .args .k in
     let full-u : length (u .bytes) ≡ 32 = search needs in
     let full-k : length (k .bytes) ≡ 40 = search needs in
-    let left = front-lent (userOf u) (u .bytes) (c .before .before .before .before .before .before .before .before .user-key-len .result) (userOf-front u full-u) (c .before .before .before .before .before .before .before .before .user-key-len .ensures) in
-    let right = front-lent (model.user (keyOf k)) (k .bytes) (c .before .before .before .before .before .before .before .user-len .result) (user-front k full-k) (c .before .before .before .before .before .before .before .user-len .ensures) in
-    rw (← left, ← right) (c .lex-order .ensures)
+    let left = front-taken (userOf u) (u .bytes) (p .user-key-len .result) (userOf-front u full-u) (p .user-key-len .ensures) in
+    let right = front-taken (model.user (keyOf k)) (k .bytes) (c .before .before .before .before .before .user-len .result) (user-front k full-k) (c .before .before .before .before .before .user-len .ensures) in
+    rw (← left, ← right) (c .order-of .ensures)
 
 pub order-of-user-spec : {M : Type 1} → statement M
 order-of-user-spec =
@@ -61,11 +47,7 @@ order-of-user-spec =
     (tie.spec
     user-key-len-requires
     user-len-requires
-    sub-lex-order
-    part-lex-order-start
-    part-lex-order-end
-    sub-lex-order-2
-    part-lex-order-start-2
-    part-lex-order-end-2
-    lex-order-requires
+    slice-aggregate-order-of
+    slice-aggregate-order-of-2
+    order-of-requires
     returns)

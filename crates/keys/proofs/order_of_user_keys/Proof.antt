@@ -3,7 +3,7 @@ use mathlib.Core.Path.{_≡_}
 use native.Mathlib.Omega.{arith}
 use lib.ListN.{length}
 use borrow.Author.Needs.{needs}
-use Rattle.lemmas.specs.Fronts.{front-lent}
+use Rattle.lemmas.specs.Fronts.{front-taken}
 use Rattle.model.specs.Key as model
 use Rattle.keys.specs.Key.{userOf}
 use Rattle.keys.specs.KeyLaws.{userOf-front, userOf-length}
@@ -16,44 +16,30 @@ user-key-len-requires c κs = search needs
 user-key-len-requires-2 : tie.Need-user-key-len-requires-2
 user-key-len-requires-2 c κs = search needs
 
-sub-lex-order : tie.Need-sub-lex-order
-sub-lex-order c = search needs
+slice-aggregate-order-of : tie.Need-slice-aggregate-order-of
+slice-aggregate-order-of c = search needs
 
-part-lex-order-start : tie.Need-part-lex-order-start
-part-lex-order-start c = search needs
+slice-aggregate-order-of-2 : tie.Need-slice-aggregate-order-of-2
+slice-aggregate-order-of-2 c = search needs
 
-part-lex-order-end : tie.Need-part-lex-order-end
-part-lex-order-end c =
-    let u = c .before .before .before .before .before .args .u in
-    let full : length (u .bytes) ≡ 32 = search needs in
-    omega (arith, userOf-length u)
-
-sub-lex-order-2 : tie.Need-sub-lex-order-2
-sub-lex-order-2 c = search needs
-
-part-lex-order-start-2 : tie.Need-part-lex-order-start-2
-part-lex-order-start-2 c = search needs
-
-part-lex-order-end-2 : tie.Need-part-lex-order-end-2
-part-lex-order-end-2 c =
-    let v = c .before .before .before .before .before .before .before .args .v in
-    let full : length (v .bytes) ≡ 32 = search needs in
-    omega (arith, userOf-length v)
-
-lex-order-requires : tie.Need-lex-order-requires
-lex-order-requires c κs = search needs
+order-of-requires : tie.Need-order-of-requires
+order-of-requires c κs =
+    let s = c .before .before .before .before .before .before .args in
+    let full-u : length (s .u .bytes) ≡ 32 = search needs in
+    let full-v : length (s .v .bytes) ≡ 32 = search needs in
+    (omega (arith, userOf-length (s .u)), omega arith, omega (arith, userOf-length (s .v)), omega arith)
 
 returns : tie.Need-returns
 unfolding model.userBefore
 returns c =
-    let s = c .before .before .before .before .before .before .before .before .before in
-    let u = s .args .u in
-    let v = s .args .v in
+    let p = c .before .before .before .before .before .before in
+    let u = p .before .args .u in
+    let v = p .before .args .v in
     let full-u : length (u .bytes) ≡ 32 = search needs in
     let full-v : length (v .bytes) ≡ 32 = search needs in
-    let left = front-lent (userOf u) (u .bytes) (c .before .before .before .before .before .before .before .before .user-key-len .result) (userOf-front u full-u) (c .before .before .before .before .before .before .before .before .user-key-len .ensures) in
-    let right = front-lent (userOf v) (v .bytes) (c .before .before .before .before .before .before .before .user-key-len2 .result) (userOf-front v full-v) (c .before .before .before .before .before .before .before .user-key-len2 .ensures) in
-    rw (← left, ← right) (c .lex-order .ensures)
+    let left = front-taken (userOf u) (u .bytes) (p .user-key-len .result) (userOf-front u full-u) (p .user-key-len .ensures) in
+    let right = front-taken (userOf v) (v .bytes) (c .before .before .before .before .before .user-key-len2 .result) (userOf-front v full-v) (c .before .before .before .before .before .user-key-len2 .ensures) in
+    rw (← left, ← right) (c .order-of .ensures)
 
 pub order-of-user-keys-spec : {M : Type 1} → statement M
 order-of-user-keys-spec =
@@ -61,11 +47,7 @@ order-of-user-keys-spec =
     (tie.spec
     user-key-len-requires
     user-key-len-requires-2
-    sub-lex-order
-    part-lex-order-start
-    part-lex-order-end
-    sub-lex-order-2
-    part-lex-order-start-2
-    part-lex-order-end-2
-    lex-order-requires
+    slice-aggregate-order-of
+    slice-aggregate-order-of-2
+    order-of-requires
     returns)

@@ -3,7 +3,7 @@ use mathlib.Core.Path.{_≡_}
 use native.Mathlib.Omega.{arith}
 use lib.ListN.{length}
 use borrow.Author.Needs.{needs}
-use Rattle.lemmas.specs.Fronts.{front-lent}
+use Rattle.lemmas.specs.Fronts.{front-taken}
 use Rattle.model.specs.Key as model
 use Rattle.keys.specs.Key.{keyOf}
 use Rattle.keys.specs.KeyLaws.{user-front, user-short}
@@ -16,44 +16,30 @@ user-len-requires c κs = search needs
 user-len-requires-2 : tie.Need-user-len-requires-2
 user-len-requires-2 c κs = search needs
 
-sub-lex-order : tie.Need-sub-lex-order
-sub-lex-order c = search needs
+slice-aggregate-order-of : tie.Need-slice-aggregate-order-of
+slice-aggregate-order-of c = search needs
 
-part-lex-order-start : tie.Need-part-lex-order-start
-part-lex-order-start c = search needs
+slice-aggregate-order-of-2 : tie.Need-slice-aggregate-order-of-2
+slice-aggregate-order-of-2 c = search needs
 
-part-lex-order-end : tie.Need-part-lex-order-end
-part-lex-order-end c =
-    let a = c .before .before .before .before .before .args .a in
-    let full : length (a .bytes) ≡ 40 = search needs in
-    omega (arith, user-short a)
-
-sub-lex-order-2 : tie.Need-sub-lex-order-2
-sub-lex-order-2 c = search needs
-
-part-lex-order-start-2 : tie.Need-part-lex-order-start-2
-part-lex-order-start-2 c = search needs
-
-part-lex-order-end-2 : tie.Need-part-lex-order-end-2
-part-lex-order-end-2 c =
-    let b = c .before .before .before .before .before .before .before .args .b in
-    let full : length (b .bytes) ≡ 40 = search needs in
-    omega (arith, user-short b)
-
-lex-order-requires : tie.Need-lex-order-requires
-lex-order-requires c κs = search needs
+order-of-requires : tie.Need-order-of-requires
+order-of-requires c κs =
+    let s = c .before .before .before .before .before .before .args in
+    let full-a : length (s .a .bytes) ≡ 40 = search needs in
+    let full-b : length (s .b .bytes) ≡ 40 = search needs in
+    (omega (arith, user-short (s .a)), omega arith, omega (arith, user-short (s .b)), omega arith)
 
 returns : tie.Need-returns
 unfolding model.userBefore
 returns c =
-    let s = c .before .before .before .before .before .before .before .before .before in
-    let a = s .args .a in
-    let b = s .args .b in
+    let p = c .before .before .before .before .before .before in
+    let a = p .before .args .a in
+    let b = p .before .args .b in
     let full-a : length (a .bytes) ≡ 40 = search needs in
     let full-b : length (b .bytes) ≡ 40 = search needs in
-    let left = front-lent (model.user (keyOf a)) (a .bytes) (c .before .before .before .before .before .before .before .before .user-len .result) (user-front a full-a) (c .before .before .before .before .before .before .before .before .user-len .ensures) in
-    let right = front-lent (model.user (keyOf b)) (b .bytes) (c .before .before .before .before .before .before .before .user-len2 .result) (user-front b full-b) (c .before .before .before .before .before .before .before .user-len2 .ensures) in
-    rw (← left, ← right) (c .lex-order .ensures)
+    let left = front-taken (model.user (keyOf a)) (a .bytes) (p .user-len .result) (user-front a full-a) (p .user-len .ensures) in
+    let right = front-taken (model.user (keyOf b)) (b .bytes) (c .before .before .before .before .before .user-len2 .result) (user-front b full-b) (c .before .before .before .before .before .user-len2 .ensures) in
+    rw (← left, ← right) (c .order-of .ensures)
 
 pub order-of-users-spec : {M : Type 1} → statement M
 order-of-users-spec =
@@ -61,11 +47,7 @@ order-of-users-spec =
     (tie.spec
     user-len-requires
     user-len-requires-2
-    sub-lex-order
-    part-lex-order-start
-    part-lex-order-end
-    sub-lex-order-2
-    part-lex-order-start-2
-    part-lex-order-end-2
-    lex-order-requires
+    slice-aggregate-order-of
+    slice-aggregate-order-of-2
+    order-of-requires
     returns)

@@ -5,7 +5,7 @@ use mathlib.Core.List.{List}
 use borrow.Author.Needs.{needs}
 use Rattle.model.specs.Key as model
 use Rattle.keys.specs.Key.{keyOf, userOf}
-use Rattle.keys.specs.KeyLaws.{standing-before, standing-equal, standing-greater}
+use Rattle.octets.specs.Standing.{standing-before, standing-equal, standing-greater}
 use Rattle.keys.proofs.user_is_after.Statement.{statement}
 use Rattle.keys.proofs.user_is_after.Tie as tie
 

@@ -1,15 +1,14 @@
--- `keys::word` meets its contract. The loop's invariant: the bytes that are left go on from x to the whole number. Assumes nothing.
+-- `octets::word` meets its contract. The loop's invariant: the bytes that are left go on from x to the whole number. Assumes nothing.
 use Prim.Native.Nat.{ℕ, suc, _+_, _-_, _*_, _^_, _≤_, _<_}
-use mathlib.Core.Path.{_≡_, refl, sym, ap, _∙_}
-use mathlib.Core.List.{List}
+use mathlib.Core.Path.{_≡_, sym, ap, _∙_}
 use native.Mathlib.Omega.{arith}
-use lib.ListN.{length, getD, take, drop}
+use lib.ListN.{getD, take, drop}
 use borrow.Author.Needs.{needs}
 use Rattle.lemmas.specs.Big.{big}
 use Rattle.lemmas.specs.Little.{number-grow, number-fits}
 use Rattle.lemmas.specs.Slices.{rest-cons}
-use Rattle.keys.proofs.word.Statement.{statement}
-use Rattle.keys.proofs.word.Tie as tie
+use Rattle.octets.proofs.word.Statement.{statement}
+use Rattle.octets.proofs.word.Tie as tie
 
 abbrev Inv-loop : tie.InvT-loop
 Inv-loop a at x₀ i₀ x i = (i ≤ 8) × (x < 256 ^ i) × (big x (take (8 - i) (drop (at + i) a)) ≡ big 0 (take 8 (drop at a)))

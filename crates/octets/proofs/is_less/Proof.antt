@@ -1,8 +1,8 @@
--- `keys::is_less` meets its contract. Assumes nothing.
+-- `octets::is_less` meets its contract. Assumes nothing.
 use borrow.Author.Needs.{needs}
-use Rattle.keys.specs.Key.{less}
-use Rattle.keys.proofs.is_less.Statement.{statement}
-use Rattle.keys.proofs.is_less.Tie as tie
+use Rattle.octets.specs.Octets.{less}
+use Rattle.octets.proofs.is_less.Statement.{statement}
+use Rattle.octets.proofs.is_less.Tie as tie
 
 enum-told : tie.Need-enum-told
 enum-told c = search needs

@@ -1,0 +1,117 @@
+// Runs of bytes that are lent, in rooms of whole words: eight bytes are read at once, as one number, and always from a multiple of eight on.
+ghost use mathlib.Core.Path.{_≡_};
+ghost use Prim.Native.Nat.{_+_, _-_, _/_, _%_, _^_, _≤_, _<_, min};
+ghost use lib.ListN.{length, take, drop, getD};
+ghost use Rattle.lemmas.specs.Order.{lexb};
+ghost use Rattle.lemmas.specs.Lists.{all};
+ghost use Rattle.lemmas.specs.Big.{big};
+ghost use Rattle.octets.specs.Octets.{standing, less, isZero};
+
+// How two things stand.
+pub enum Order {
+    Less,
+    Equal,
+    Greater,
+}
+
+// Whether the answer is that the first comes first.
+pub fn is_less(o: Order) -> bool
+    ensures { λ r. ⌜ r ≡ less o ⌝ }
+{
+    match o {
+        Order::Less => true,
+        Order::Equal => false,
+        Order::Greater => false,
+    }
+}
+
+// A byte as a number of 64 bits.
+pub fn wide(x: u8) -> u64
+    ensures { λ r. ⌜ r ≡ x ⌝ }
+{
+    x as u64
+}
+
+// The lesser of two places.
+fn lesser(m: usize, n: usize) -> usize
+    ensures { λ r. ⌜ r ≡ min m n ⌝ }
+{
+    if n < m { n } else { m }
+}
+
+// The eight bytes from a place on as one number, the first byte the greatest.
+fn word(a: &[u8], at: usize) -> u64
+    requires { ⌜ at + 8 ≤ length (now a) ⌝ }
+    ensures { λ r. ⌜ r ≡ big 0 (take 8 (drop at (now (a .entry)))) ⌝ }
+{
+    let mut x: u64 = 0;
+    let mut i: usize = 0;
+    while i < 8 {
+        x = x * 256 + wide(a[at + i]);
+        i += 1;
+    }
+    x
+}
+
+// The first bytes of a word, as many of its eight as are asked for.
+fn front(x: u64, c: usize) -> u64
+    requires { ⌜ 0 < c ⌝ }
+    ensures { λ r. ⌜ r ≡ x / 256 ^ (8 - c) ⌝ }
+{
+    x >> (64 - 8 * lesser(c, 8))
+}
+
+// The order of the first bytes of two rooms: by the first that differs, a proper prefix first.
+pub fn order_of(a: &[u8], m: usize, b: &[u8], n: usize) -> Order
+    requires { ⌜ (m ≤ length (now a)) × (length (now a) % 8 ≡ 0) × (n ≤ length (now b)) × (length (now b) % 8 ≡ 0) ⌝ }
+    ensures { λ r. ⌜ r ≡ standing lexb (take m (now (a .entry))) (take n (now (b .entry))) ⌝ }
+{
+    let both = lesser(m, n);
+    let mut i: usize = 0;
+    while i < both {
+        let x = front(word(a, i), both - i);
+        let y = front(word(b, i), both - i);
+        if x < y {
+            return Order::Less;
+        }
+        if y < x {
+            return Order::Greater;
+        }
+        i += 8;
+    }
+    if m < n {
+        return Order::Less;
+    }
+    if n < m {
+        return Order::Greater;
+    }
+    Order::Equal
+}
+
+// Whether zeros stand in a room from a place on. Of the word that the place is in, the bytes before it are shifted out.
+pub fn zeros_from(a: &[u8], n: usize) -> bool
+    requires { ⌜ (n ≤ length (now a)) × (length (now a) % 8 ≡ 0) ⌝ }
+    ensures { λ r. ⌜ r ≡ all isZero (drop n (now (a .entry))) ⌝ }
+{
+    let end = a.len();
+    let mut c = n % 8;
+    let mut i = n - c;
+    while i < end {
+        if word(a, i) << (8 * c) != 0 {
+            return false;
+        }
+        i += 8;
+        c = 0;
+    }
+    true
+}
+
+// The byte at a place, out of the word that it is in.
+pub fn byte(a: &[u8], i: usize) -> u8
+    requires { ⌜ (i < length (now a)) × (length (now a) % 8 ≡ 0) ⌝ }
+    ensures { λ r. ⌜ r ≡ getD (now (a .entry)) i 0 ⌝ }
+{
+    let c = i % 8;
+    let w = word(a, i - c);
+    ((w >> (56 - 8 * c)) % 256) as u8
+}
