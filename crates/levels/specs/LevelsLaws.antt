@@ -13,7 +13,6 @@ use lib.Seq.{slice, take-at, drop-at, take-append-seam, length-take-le, take-tak
 use Rattle.lemmas.specs.Lists.{all, chain, join, sum, distinct}
 use Rattle.lemmas.specs.ListLaws.{and-left, and-right, and-true, both, all-in, join-empties}
 use Rattle.lemmas.specs.Slices.{put, parts, part-at, parts-turn, parts-over, length-parts, join-parts, lengths-parts, sum-lengths, put-parts, put-front, put-nil, length-put, drop-replicate}
-use Rattle.lemmas.specs.Fronts.{front-lent}
 use Rattle.lemmas.specs.Loops.{chain-map-broken, chain-map-goes-on, chain-map-ended}
 use Rattle.lemmas.specs.Merge.{all-take, all-drop}
 use Rattle.lemmas.specs.Maps.{join-map, lengths-map, all-join}
@@ -24,7 +23,8 @@ use Rattle.records.specs.Record.{fileOf, recordOf, blank, vacant, soundRecord, 
 use Rattle.records.specs.RecordLaws.{past, Shaped, AllShaped, AllWords, sound-list, blank-list, vacant-blank, blank-shaped, well-list, well-list-is, files-of-records, records-well, records-shaped}
 use Rattle.records.specs.Run.{run}
 use Rattle.records.specs.declared.FileRecord.{FileRecord}
-use Rattle.levels.specs.Levels.{follows, levelsOf, laidOut, countsOf, soundLevels, wellLevels}
+use Rattle.levels.specs.declared.Surveyed.{Surveyed}
+use Rattle.levels.specs.Levels.{follows, levelsOf, laidOut, countsOf, soundLevels, wellLevels, arranged, unarranged, surveyOf, tellsWell}
 
 -- ---- what may follow what
 
@@ -307,10 +307,66 @@ unfolding all Each fileOf
 words-good [] w = refl
 words-good (r ∷ rs) w = rw (lt-ltb (r .number .0) (2 ^ 64) (w .0), words-good rs (w .1), and-true (goodFile full (fileOf r)))
 
--- more files than there is room for
-pub too-many : (files : List FileRecord) (counts : List ℕ) → 256 < sum counts → wellLevels files counts ≡ false
-unfolding wellLevels soundLevels full
-too-many files counts h = rw (lt-leb (sum counts) 256 h)
+-- ---- one look at levels
+
+module _ (files : List FileRecord) (counts : List ℕ) where
+  -- more files than there is room for
+  pub too-many : 256 < sum counts → arranged files counts ≡ false
+  unfolding arranged full
+  too-many h = rw (lt-leb (sum counts) 256 h)
+
+  -- where they have room: records, blank places, order
+  pub arranged-is : sum counts ≤ 256
+      → arranged files counts ≡ all wellRecord (take (sum counts) files) && all isBlank (drop (sum counts) files) && levelwise inOrder 0 (levelsOf files counts)
+  unfolding arranged full
+  arranged-is h = rw (le-leb (sum counts) 256 h)
+
+  -- nothing is seen of levels that are not arranged
+  pub survey-none : arranged files counts ≡ false → surveyOf files counts ≡ unarranged
+  unfolding surveyOf
+  survey-none t = rw t
+
+  -- all numbers are seen of levels that are
+  pub survey-all : arranged files counts ≡ true
+      → surveyOf files counts ≡ record { numbers = put (replicate 256 0) 0 (numbers (run 0 (sum counts) files)); total = sum counts; arranged = true }
+  unfolding surveyOf
+  survey-all t = rw t
+
+  -- the survey tells which it is
+  pub survey-arranged : surveyOf files counts .arranged ≡ arranged files counts
+  unfolding unarranged
+  survey-arranged = go (arranged files counts) refl
+    where
+      go : (t : Bool) → arranged files counts ≡ t → surveyOf files counts .arranged ≡ arranged files counts
+      go true e = rw (survey-all e) (sym e)
+      go false e = rw (survey-none e) (sym e)
+
+  -- a column of them beside their number is that
+  pub survey-is : (n : ℕ) (column : List ℕ) → arranged files counts ≡ true → n ≡ sum counts → column ≡ put (replicate 256 0) 0 (numbers (run 0 n files))
+      → record { numbers = column; total = n; arranged = true } ≡ surveyOf files counts
+  survey-is n column t e f =
+      ap (λ (ns : List ℕ). seen ns n) f ∙ ap (λ (k : ℕ). seen (put (replicate 256 0) 0 (numbers (run 0 k files))) k) e ∙ sym (survey-all t)
+    where
+      seen : List ℕ → ℕ → Surveyed
+      seen ns k = record { numbers = ns; total = k; arranged = true }
+
+  -- levels that are arranged have room
+  pub arranged-room : arranged files counts ≡ true → sum counts ≤ 256
+  unfolding arranged full
+  arranged-room e =
+      let a = leb (sum counts) 256 in
+      let b = all wellRecord (take (sum counts) files) in
+      let c = all isBlank (drop (sum counts) files) in
+      leb-true (sum counts) 256 (and-left a b (and-left (a && b) c (and-left (a && b && c) (levelwise inOrder 0 (levelsOf files counts)) e)))
+
+  -- and so have the numbers of a survey
+  pub survey-room : surveyOf files counts .total ≤ 256
+  unfolding unarranged
+  survey-room = go (arranged files counts) refl
+    where
+      go : (t : Bool) → arranged files counts ≡ t → surveyOf files counts .total ≤ 256
+      go true e = rw (survey-all e) (arranged-room e)
+      go false e = rw (survey-none e) (omega arith)
 
 -- the parts of the test, in another order
 regroup : (t a b u c d v e : Bool) → t ≡ true → u ≡ true → v ≡ true → (t && a && b) && (u && c && d && v && e) ≡ (a && c) && b && d && e
@@ -328,7 +384,7 @@ regroup t a b u c d v e p q r = rw (p, q, r) (go a b c d)
     go true false true d = refl
 
 -- where they have room: records, blank places, numbers, order
-pub well-is : (files : List FileRecord) (counts : List ℕ) → length files ≡ 256 → length counts ≡ 7 → AllWords files → sum counts ≤ 256
+well-is : (files : List FileRecord) (counts : List ℕ) → length files ≡ 256 → length counts ≡ 7 → AllWords files → sum counts ≤ 256
     → wellLevels files counts
     ≡ all wellRecord (take (sum counts) files) && all isBlank (drop (sum counts) files) && distinct (numbers (map fileOf (take (sum counts) files)))
     && levelwise inOrder 0 (levelsOf files counts)
@@ -343,11 +399,47 @@ well-is files counts q k w h =
     (regroup (leb n 256) (all soundRecord rs) (all isBlank (drop n files)) (eqb (length (levelsOf files counts)) 7) (all (goodFile full) (map fileOf rs))
     (distinct (numbers (map fileOf rs))) (leb (length (map fileOf rs)) 256) (levelwise inOrder 0 (levelsOf files counts)) (le-leb n 256 h) seven roomy)
 
--- the numbers of the first n files, as they are lent from the front of a column
-pub column-is : (n : ℕ) (files : List FileRecord) (d column : List ℕ) → n ≤ length files → column ≡ put d 0 (numbers (run 0 n files)) → take (n - 0) column ≡ numbers (map fileOf (take n files))
+-- the numbers of the first n files stand at the front of their column
+column-is : (n : ℕ) (files : List FileRecord) (d column : List ℕ) → n ≤ length files → column ≡ put d 0 (numbers (run 0 n files)) → take n column ≡ numbers (map fileOf (take n files))
 unfolding run numbers
 column-is n files d column h e =
     let rs = map fileOf (take n files) in
     let ns = map (λ (f : File). f .number) rs in
     let size : n ≡ length ns = omega (arith, length-map rs (λ (f : File). f .number), length-map (take n files) fileOf, length-take-le n files h) in
-    front-lent ns column n (sym (ap (take (length ns)) (e ∙ put-front d ns) ∙ take-append-seam ns (drop (length ns) d))) size
+    ap (λ (i : ℕ). take i column) size ∙ ap (take (length ns)) (e ∙ put-front d ns) ∙ take-append-seam ns (drop (length ns) d)
+
+-- a test that fails without one of its parts fails with it
+still-fails : (a b d u : Bool) → a && b && d ≡ false → a && b && u && d ≡ false
+still-fails false b d u e = refl
+still-fails true false d u e = refl
+still-fails true true d true e = e
+still-fails true true d false e = refl
+
+-- levels are well-formed where a look at them tells that they are arranged and gives no number twice
+pub survey-well : (files : List FileRecord) (counts : List ℕ) → length files ≡ 256 → length counts ≡ 7 → AllWords files
+    → tellsWell (surveyOf files counts) ≡ wellLevels files counts
+unfolding unarranged tellsWell wellLevels soundLevels full
+survey-well files counts q k w = go (arranged files counts) refl
+  where
+    go : (t : Bool) → arranged files counts ≡ t → tellsWell (surveyOf files counts) ≡ wellLevels files counts
+    go true e =
+        let h = arranged-room files counts e in
+        let n = sum counts in
+        let a = all wellRecord (take n files) in
+        let b = all isBlank (drop n files) in
+        let d = levelwise inOrder 0 (levelsOf files counts) in
+        let u = distinct (numbers (map fileOf (take n files))) in
+        let all-three : a && b && d ≡ true = sym (arranged-is files counts h) ∙ e in
+        let two = and-left (a && b) d all-three in
+        let seen : take n (put (replicate 256 0) 0 (numbers (run 0 n files))) ≡ numbers (map fileOf (take n files)) =
+        column-is n files (replicate 256 0) (put (replicate 256 0) 0 (numbers (run 0 n files))) (omega arith) refl in
+        rw (survey-all files counts e, seen) (sym (well-is files counts q k w h ∙ rw (and-left a b two, and-right a b two, and-right (a && b) d all-three, and-true u)))
+    go false e = rw (survey-none files counts e) (sym (room (leb (sum counts) 256) refl))
+      where
+        room : (t : Bool) → leb (sum counts) 256 ≡ t → wellLevels files counts ≡ false
+        room true r =
+            let h = leb-true (sum counts) 256 r in
+            let n = sum counts in
+            well-is files counts q k w h
+            ∙ still-fails (all wellRecord (take n files)) (all isBlank (drop n files)) (levelwise inOrder 0 (levelsOf files counts)) (distinct (numbers (map fileOf (take n files)))) (sym (arranged-is files counts h) ∙ e)
+        room false r = rw r

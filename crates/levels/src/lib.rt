@@ -3,9 +3,8 @@ ghost use mathlib.Core.Path.{_≡_};
 ghost use Prim.Native.Nat.{_≤_, min};
 ghost use lib.ListN.{take};
 ghost use Rattle.lemmas.specs.Lists.{sum};
-ghost use Rattle.model.specs.File.{inOrder, levelwise};
 ghost use Rattle.records.specs.Record.{fileOf};
-ghost use Rattle.levels.specs.Levels.{levelsOf, follows, wellLevels};
+ghost use Rattle.levels.specs.Levels.{follows, wellLevels, surveyOf, unarranged, tellsWell};
 use records::FileRecord;
 use records::Level;
 
@@ -24,6 +23,13 @@ pub fn counted(counts: [usize; 7]) -> usize
         i += 1;
     }
     sum
+}
+
+// What one look at levels tells: the numbers of their files, zeros past them; how many there are; whether all but the numbers is as document 01 has it.
+pub struct Surveyed {
+    pub numbers: [u64; 256],
+    pub total: usize,
+    pub arranged: bool,
 }
 
 // Where a level starts. For callers of this repository that know the counts to be within the room.
@@ -53,42 +59,32 @@ fn may_follow(level: usize, f: FileRecord, g: FileRecord) -> bool
     keys::is_before(a, b)
 }
 
-// Whether the files of each level stand in order. For callers of this repository that know the counts to be within the room.
-pub fn are_in_order(files: [FileRecord; 256], counts: [usize; 7]) -> bool
-    requires { ⌜ sum counts ≤ 256 ⌝ }
-    ensures { λ r. ⌜ r ≡ levelwise inOrder 0 (levelsOf files counts) ⌝ }
+// Nothing seen: no files, and that they are not arranged.
+fn nothing_seen() -> Surveyed
+    ensures { λ r. ⌜ r ≡ unarranged ⌝ }
 {
-    let mut from: usize = 0;
-    let mut level: usize = 0;
-    while level < Level::COUNT {
-        let to = from + counts[level];
-        let mut next = from + 1;
-        while next < to {
-            if !may_follow(level, files[next - 1], files[next]) {
-                return false;
-            }
-            next += 1;
-        }
-        from = to;
-        level += 1;
+    Surveyed {
+        numbers: [0u64; 256],
+        total: 0,
+        arranged: false,
     }
-    true
 }
 
-// Whether levels are well-formed: room, records, blank places, numbers, order. The array goes to no other function: each would copy it.
-pub fn are_well_formed(files: [FileRecord; 256], counts: [usize; 7]) -> bool
-    ensures { λ r. ⌜ r ≡ wellLevels files counts ⌝ }
+// One look at levels: whether room, records, blank places and order are as document 01 has them, and the files' numbers if so. The array goes to no other function:
+// each would copy it.
+pub fn survey(files: [FileRecord; 256], counts: [usize; 7]) -> Surveyed
+    ensures { λ r. ⌜ (r ≡ surveyOf files counts) × (tellsWell r ≡ wellLevels files counts) ⌝ }
 {
     let n = counted(counts);
     if 256 < n {
-        return false;
+        return nothing_seen();
     }
     let mut column = [0u64; 256];
     let mut i: usize = 0;
     while i < n {
         let f = files[i];
         if !records::is_well_formed(f) {
-            return false;
+            return nothing_seen();
         }
         let x = f.number;
         column[i] = x.0;
@@ -96,12 +92,9 @@ pub fn are_well_formed(files: [FileRecord; 256], counts: [usize; 7]) -> bool
     }
     while i < 256 {
         if !records::is_blank(files[i]) {
-            return false;
+            return nothing_seen();
         }
         i += 1;
-    }
-    if !sorting::no_twice(&column[0..n]) {
-        return false;
     }
     let mut from: usize = 0;
     let mut level: usize = 0;
@@ -110,12 +103,29 @@ pub fn are_well_formed(files: [FileRecord; 256], counts: [usize; 7]) -> bool
         let mut next = from + 1;
         while next < to {
             if !may_follow(level, files[next - 1], files[next]) {
-                return false;
+                return nothing_seen();
             }
             next += 1;
         }
         from = to;
         level += 1;
     }
-    true
+    Surveyed {
+        numbers: column,
+        total: n,
+        arranged: true,
+    }
+}
+
+// Whether surveyed levels are well-formed: arranged, and no number stands twice. For callers of this repository, whose survey is one of levels.
+pub fn are_well_formed(v: Surveyed) -> bool
+    requires { ⌜ v .total ≤ 256 ⌝ }
+    ensures { λ r. ⌜ r ≡ tellsWell v ⌝ }
+{
+    if !v.arranged {
+        return false;
+    }
+    let numbers = v.numbers;
+    let n = v.total;
+    sorting::no_twice(&numbers[0..n])
 }

@@ -110,7 +110,7 @@ pub fn is_well_formed(level: usize, l: FileList) -> bool
         counts[1] = l.count;
     }
     let files = l.files;
-    levels::are_well_formed(files, counts)
+    levels::are_well_formed(levels::survey(files, counts))
 }
 
 // The bytes of a list of one level: the sum over its files.

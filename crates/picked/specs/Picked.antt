@@ -5,6 +5,7 @@ use mathlib.Core.Bool.{Bool, not, _&&_, _||_, cond}
 use mathlib.Core.List.{List, [], _∷_, map}
 use lib.Dec.{eqb, ltb}
 use lib.ListN.{length, getD}
+use lib.Seq.{slice}
 use Rattle.lemmas.specs.Lists.{all, distinct}
 use Rattle.lemmas.specs.Slices.{put}
 use Rattle.model.specs.Answer.{Answer, gives, refused, onAnswer, lent}
@@ -101,6 +102,11 @@ framed level maximum first grand =
 unfoldable pub asLevels : ℕ → ℕ → ℕ → ℕ → List ℕ
 asLevels zero first second grand = first ∷ second ∷ grand ∷ 0 ∷ 0 ∷ 0 ∷ 0 ∷ []
 asLevels (suc l) first second grand = 0 ∷ first ∷ second ∷ grand ∷ 0 ∷ 0 ∷ 0 ∷ []
+
+-- no number stands twice in each of three runs of a column
+unfoldable pub distinctRuns : List ℕ → ℕ → ℕ → ℕ → Bool
+distinctRuns ns first second grand =
+    distinct (slice 0 first ns) && (distinct (slice first (first + second) ns) && distinct (slice (first + second) (first + second + grand) ns))
 
 -- no list has a number twice
 unfoldable pub distinctLists : List (List File) → Bool

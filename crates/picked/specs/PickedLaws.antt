@@ -8,7 +8,7 @@ use native.Mathlib.Omega.{arith}
 use native.Mathlib.Nat.{add-zero, zero-add}
 use native.Mathlib.Numerals.{add-one}
 use lib.Dec.{eqb, leb, ltb}
-use borrow.Author.Tests.{leb-true, le-leb, lt-leb, eqb-false, eq-eqb, ne-eqb, lt-ltb, le-ltb, not-false}
+use borrow.Author.Tests.{leb-true, leb-false, le-leb, lt-leb, eqb-false, eq-eqb, ne-eqb, lt-ltb, le-ltb, not-false}
 use lib.ListN.{length, getD, take, drop, replicate, length-map, length-append}
 use lib.Seq.{slice, length-take-le, take-at, take-append-le, take-take, drop-drop}
 use Rattle.lemmas.specs.Order.{clash}
@@ -34,14 +34,15 @@ use Rattle.records.specs.Record.{fileOf, soundRecord, wellRecord, isBlank}
 use Rattle.records.specs.RecordLaws.{AllShaped, AllWords, well-list, well-list-is, total-bound}
 use Rattle.records.specs.Run.{run}
 use Rattle.records.specs.declared.FileRecord.{FileRecord}
-use Rattle.levels.specs.Levels.{levelsOf, laidOut, countsOf, soundLevels}
+use Rattle.levels.specs.Levels.{levelsOf, laidOut, countsOf, soundLevels, arranged}
 use Rattle.levels.specs.LevelsLaws as levels
+use Rattle.levels.specs.LevelsLaws.{arranged-is, arranged-room}
 use Rattle.edits.specs.declared.Edit.{Edit}
 use Rattle.edits.specs.Edit.{entries, deletionOf, editOf}
 use Rattle.picked.specs.declared.Cause.{Cause}
 use Rattle.picked.specs.declared.Cause.the-variants.{Size, Manual}
 use Rattle.picked.specs.declared.Picked.{Picked}
-use Rattle.picked.specs.Picked.{causeOf, causeRecord, countsIn, listsIn, pickedOf, threeLists, pickedRecord, soundPicked, wellPicked, onPicked, framed, asLevels, distinctLists, deletionAt, deletionRecord, roomIn, withDeletions, deletedBy, naming, Names}
+use Rattle.picked.specs.Picked.{causeOf, causeRecord, countsIn, listsIn, pickedOf, threeLists, pickedRecord, soundPicked, wellPicked, onPicked, framed, asLevels, distinctRuns, distinctLists, deletionAt, deletionRecord, roomIn, withDeletions, deletedBy, naming, Names}
 
 -- ---- causes
 
@@ -380,22 +381,27 @@ unfolding asLevels
 levels-deeper zero a b c h = absurd (h refl)
 levels-deeper (suc l) a b c h = refl
 
--- a part lent of an array whose front holds a list
-pub part-lent : {A : Type 0} (d xs : List A) (from to : ℕ) → from ≤ to → to ≤ length xs → take (to - from) (drop from (put d 0 xs)) ≡ slice from to xs
-part-lent d xs from to h k =
-    let n : from + (to - from) ≡ to = omega arith in
-    take-drop from (to - from) (put d 0 xs) ∙ rw (n, put-front d xs) (ap (drop from) (take-append-le to xs (drop (length xs) d) k))
-
--- the numbers of a run, as they are lent from a column of numbers
-pub column-run : (n from to : ℕ) (files : List FileRecord) (d column : List ℕ) → n ≤ length files → from ≤ to → to ≤ n → column ≡ put d 0 (numbers (run 0 n files))
-    → take (to - from) (drop from column) ≡ numbers (run from to files)
+-- the numbers of a run, from a column of numbers
+column-run : (n from to : ℕ) (files : List FileRecord) (d column : List ℕ) → n ≤ length files → from ≤ to → to ≤ n → column ≡ put d 0 (numbers (run 0 n files))
+    → slice from to column ≡ numbers (run from to files)
 unfolding run numbers
 column-run n from to files d column q h k e =
     let number : File → ℕ = λ f. f .number in
     let fs = map fileOf (take n files) in
     let size : length (map number fs) ≡ n = length-map fs number ∙ length-map (take n files) fileOf ∙ length-take-le n files q in
-    ap (λ (l : List ℕ). take (to - from) (drop from l)) e ∙ part-lent d (map number fs) from to h (omega arith)
+    ap (slice from to) (e ∙ put-front d (map number fs)) ∙ ap (drop from) (take-append-le to (map number fs) (drop (length (map number fs)) d) (omega arith))
     ∙ slice-map number from to fs ∙ ap (map number) (slice-map fileOf from to (take n files) ∙ ap (λ (rs : List FileRecord). map fileOf (drop from rs)) (take-take to n files k))
+
+-- what is lent of a list from a place up to another
+pub lent-slice : {A : Type 0} (from to : ℕ) (xs : List A) → from ≤ to → take (to - from) (drop from xs) ≡ slice from to xs
+lent-slice from to xs h =
+    let m : from + (to - from) ≡ to = omega arith in
+    take-drop from (to - from) xs ∙ ap (λ (n : ℕ). drop from (take n xs)) m
+
+-- the same, as they are lent from there
+pub column-lent : (n from to : ℕ) (files : List FileRecord) (d column : List ℕ) → n ≤ length files → from ≤ to → to ≤ n → column ≡ put d 0 (numbers (run 0 n files))
+    → take (to - from) (drop from column) ≡ numbers (run from to files)
+column-lent n from to files d column q h k e = lent-slice from to column h ∙ column-run n from to files d column q h k e
 
 -- three lists, none of which has a number twice: the first has, the second has, neither has
 module _ (files : List FileRecord) (a b c : ℕ) where
@@ -410,6 +416,51 @@ module _ (files : List FileRecord) (a b c : ℕ) where
       ≡ (distinct (numbers (run 0 a files)) && (distinct (numbers (run a (a + b) files)) && distinct (numbers (run (a + b) (a + b + c) files))))
   unfolding distinctLists all
   distinct-three = ap distinctLists lists-are ∙ rw (and-true (distinct (numbers (run (a + b) (a + b + c) files))))
+
+  -- the column of their numbers says the same
+  pub distinct-runs : (d column : List ℕ) → a + b + c ≤ length files → column ≡ put d 0 (numbers (run 0 (a + b + c) files)) → distinctRuns column a b c ≡ distinctLists lists
+  unfolding distinctRuns
+  distinct-runs d column h e =
+      rw (column-run (a + b + c) 0 a files d column h (omega arith) (omega arith) e, column-run (a + b + c) a (a + b) files d column h (omega arith) (omega arith) e, column-run (a + b + c) (a + b) (a + b + c) files d column h (omega arith) (omega arith) e)
+      (sym distinct-three)
+
+-- a test without three parts that hold; with one of them failing
+five-left : (f a b u d : Bool) → a && b && d ≡ true → f && a && b && u && d ≡ f && u
+five-left f true true u true e = and-true ((f && true && true) && u) ∙ ap (λ (x : Bool). x && u) (and-true (f && true) ∙ and-true f)
+five-left f true true u false e = clash e refl
+five-left f true false u d e = clash e refl
+five-left f false b u d e = clash e refl
+
+five-fail : (f a b u d : Bool) → a && b && d ≡ false → f && a && b && u && d ≡ false
+five-fail false a b u d e = refl
+five-fail true false b u d e = refl
+five-fail true true false u d e = refl
+five-fail true true true false d e = refl
+five-fail true true true true d e = e
+
+-- one look at the files of a picked answer: they are not arranged; they are, and what is asked beside them and of their numbers is left
+module _ (c : Picked) (q : length (c .files) ≡ 256) (w : AllWords (c .files)) where
+  abbrev counts : List ℕ
+  counts = asLevels (c .level) (c .first) (c .second) (c .grand)
+
+  many : sum counts ≡ c .first + c .second + c .grand
+  many = levels-sum (c .level) (c .first) (c .second) (c .grand)
+
+  pub well-unarranged : arranged (c .files) counts ≡ false → wellPicked c ≡ false
+  well-unarranged t = go (leb (sum counts) 256) refl
+    where
+      go : (r : Bool) → leb (sum counts) 256 ≡ r → wellPicked c ≡ false
+      go true r =
+          let h = leb-true (sum counts) 256 r in
+          well-is c q w (sum counts) (sym many) h
+          ∙ five-fail (framed (c .level) (c .maximum) (c .first) (c .grand)) (all wellRecord (take (sum counts) (c .files))) (all isBlank (drop (sum counts) (c .files))) (distinctLists (listsIn c)) (levelwise inOrder 0 (levelsOf (c .files) counts)) (sym (arranged-is (c .files) counts h) ∙ t)
+      go false r = too-many c (omega (arith, many, leb-false (sum counts) 256 r))
+
+  pub well-arranged : arranged (c .files) counts ≡ true → wellPicked c ≡ framed (c .level) (c .maximum) (c .first) (c .grand) && distinctLists (listsIn c)
+  well-arranged t =
+      let h = arranged-room (c .files) counts t in
+      well-is c q w (sum counts) (sym many) h
+      ∙ five-left (framed (c .level) (c .maximum) (c .first) (c .grand)) (all wellRecord (take (sum counts) (c .files))) (all isBlank (drop (sum counts) (c .files))) (distinctLists (listsIn c)) (levelwise inOrder 0 (levelsOf (c .files) counts)) (sym (arranged-is (c .files) counts h) ∙ t)
 
 -- ---- trivial moves
 

@@ -11,7 +11,7 @@ ghost use Rattle.model.specs.Pick.{isManual, trivial, inputDeletions};
 ghost use Rattle.model.specs.Calls as calls;
 ghost use Rattle.answers.specs.Outcome.{toldOf};
 ghost use Rattle.levels.specs.Levels.{levelsOf};
-ghost use Rattle.picked.specs.Picked.{causeOf, pickedOf, wellPicked, onPicked, framed, asLevels, distinctLists, deletionAt, deletionRecord, roomIn, deletedBy, Names};
+ghost use Rattle.picked.specs.Picked.{causeOf, pickedOf, wellPicked, onPicked, framed, asLevels, distinctRuns, deletionAt, deletionRecord, roomIn, deletedBy, Names};
 use answers::Counted;
 use answers::Outcome;
 use answers::Refusal;
@@ -93,14 +93,13 @@ fn as_levels(level: usize, first: usize, second: usize, grand: usize) -> [usize;
     [0, first, second, grand, 0, 0, 0]
 }
 
-// Whether none of the three lists has a number twice. For callers of this repository that know the counts to be within the room.
-fn are_distinct(files: [FileRecord; 256], first: usize, second: usize, grand: usize) -> bool
+// Whether no number stands twice in each of three runs of a column, one after another. For callers of this repository that know the counts to be within the room.
+fn are_distinct(column: [u64; 256], first: usize, second: usize, grand: usize) -> bool
     requires { ⌜ first + second + grand ≤ 256 ⌝ }
-    ensures { λ r. ⌜ r ≡ distinctLists (levelsOf files (first ∷ second ∷ grand ∷ [])) ⌝ }
+    ensures { λ r. ⌜ r ≡ distinctRuns column first second grand ⌝ }
 {
     let inputs = first + second;
     let all = inputs + grand;
-    let column = records::numbers_of(files, 0, all);
     if !sorting::no_twice(&column[0..first]) {
         return false;
     }
@@ -115,24 +114,16 @@ pub fn is_well_formed(c: Picked) -> bool
     ensures { λ r. ⌜ r ≡ wellPicked c ⌝ }
 {
     let counts = as_levels(c.level, c.first, c.second, c.grand);
-    let n = levels::counted(counts);
-    if 256 < n {
+    let files = c.files;
+    let v = levels::survey(files, counts);
+    if !v.arranged {
         return false;
     }
     if !is_framed(c.level, c.maximum, c.first, c.grand) {
         return false;
     }
-    let files = c.files;
-    if !records::are_well_formed(files, 0, n) {
-        return false;
-    }
-    if !records::are_blank(files, n) {
-        return false;
-    }
-    if !are_distinct(files, c.first, c.second, c.grand) {
-        return false;
-    }
-    levels::are_in_order(files, counts)
+    let column = v.numbers;
+    are_distinct(column, c.first, c.second, c.grand)
 }
 
 // Whether a pick was made by hand.

@@ -195,35 +195,6 @@ pub fn within(to: usize) -> usize
     to
 }
 
-// Whether each record of a run is well-formed.
-pub fn are_well_formed(files: [FileRecord; 256], from: usize, to: usize) -> bool
-    ensures { λ r. ⌜ r ≡ all wellRecord (slice from to files) ⌝ }
-{
-    let end = within(to);
-    let mut i = from;
-    while i < end {
-        if !is_well_formed(files[i]) {
-            return false;
-        }
-        i += 1;
-    }
-    true
-}
-
-// Whether each record from a place on is blank.
-pub fn are_blank(files: [FileRecord; 256], from: usize) -> bool
-    ensures { λ r. ⌜ r ≡ all isBlank (drop from files) ⌝ }
-{
-    let mut i = from;
-    while i < 256 {
-        if !is_blank(files[i]) {
-            return false;
-        }
-        i += 1;
-    }
-    true
-}
-
 // The sum of the sizes in a run, or the largest u64 where that is less.
 pub fn total_size(files: [FileRecord; 256], from: usize, to: usize) -> u64
     ensures { λ r. ⌜ r ≡ min (total (run from to files)) 18446744073709551615 ⌝ }

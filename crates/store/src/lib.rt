@@ -28,10 +28,10 @@ pub struct Store {
     pub counters: Counters,
 }
 
-// The answer of a call that changes a store: on a refusal the store as it was given.
+// The answer of a call that changes a store: on a refusal the store as it was given. The store stands first, so that it is copied as one piece.
 pub struct Stored {
-    pub outcome: Outcome,
     pub store: Store,
+    pub outcome: Outcome,
 }
 
 // The answer of `new_file_number`.
@@ -103,7 +103,7 @@ pub fn is_well_formed(s: Store) -> bool
     }
     let files = s.files;
     let counts = s.counts;
-    levels::are_well_formed(files, counts)
+    levels::are_well_formed(levels::survey(files, counts))
 }
 
 // The store as it was, with the number of the refusal.

@@ -1,14 +1,13 @@
 -- `picked::are_distinct` meets its contract. Assumes nothing.
-use Prim.Native.Nat.{_+_}
+use Prim.Native.Nat.{ℕ, _+_}
 use mathlib.Core.Path.{_≡_, sym, ap, _∙_}
 use native.Mathlib.Omega.{arith}
-use borrow.Author.Tests.{not-true, not-false}
-use lib.ListN.{length, replicate}
-use Rattle.lemmas.specs.Lists.{distinct}
-use Rattle.model.specs.File.{numbers}
-use Rattle.records.specs.Run.{run}
-use Rattle.picked.specs.PickedLaws.{column-run, distinct-three}
 use borrow.Author.Needs.{needs}
+use borrow.Author.Tests.{not-true, not-false}
+use lib.Seq.{slice}
+use Rattle.lemmas.specs.Lists.{distinct}
+use Rattle.picked.specs.Picked.{distinctRuns}
+use Rattle.picked.specs.PickedLaws.{lent-slice}
 use Rattle.picked.proofs.are_distinct.Statement.{statement}
 use Rattle.picked.proofs.are_distinct.Tie as tie
 
@@ -17,9 +16,6 @@ add-inputs c = search needs
 
 add-all : tie.Need-add-all
 add-all c = search needs
-
-numbers-of-requires : tie.Need-numbers-of-requires
-numbers-of-requires c κs = search needs
 
 sub-no-twice : tie.Need-sub-no-twice
 sub-no-twice c = search needs
@@ -33,21 +29,15 @@ part-no-twice-end c = search needs
 no-twice-requires : tie.Need-no-twice-requires
 no-twice-requires c κs = search needs
 
--- each part that is lent to no_twice is the numbers of a list
-first-is : (c : tie.After-no-twice) → let s = c .before .before .before .before in
-    c .no-twice .result ≡ distinct (numbers (run 0 (s .args .first) (s .args .files)))
-first-is c =
-    let m = c .before .before .before in
-    let a = m .before .args in
-    let q : length (a .files) ≡ 256 = search needs in
-    c .no-twice .ensures
-    ∙ ap distinct (column-run (a .first + a .second + a .grand) 0 (a .first) (a .files) (replicate 256 0) (m .numbers-of .result) (omega arith) (omega arith) (omega arith) (m .numbers-of .ensures))
+-- what is lent to no_twice is a run of the column
+first-is : (c : tie.After-no-twice) → let a = c .before .before .before .args in c .no-twice .result ≡ distinct (slice 0 (a .first) (a .t1))
+first-is c = let a = c .before .before .before .args in c .no-twice .ensures ∙ ap distinct (lent-slice 0 (a .first) (a .t1) (omega arith))
 
 returns : tie.Need-returns
+unfolding distinctRuns
 returns c =
-    let a = c .before .before .before .before .before .args in
     let t = sym (first-is (c .before)) ∙ not-true (c .before .no-twice .result) (c .if1 .taken) in
-    sym (distinct-three (a .files) (a .first) (a .second) (a .grand) ∙ rw t)
+    sym (rw t)
 
 mul-no-twice : tie.Need-mul-no-twice
 mul-no-twice c = search needs
@@ -64,22 +54,18 @@ part-no-twice-end-2 c = search needs
 no-twice-requires-2 : tie.Need-no-twice-requires-2
 no-twice-requires-2 c κs = search needs
 
-second-is : (c : tie.After-no-twice2) → let s = c .before .before .before .before .before .before .before .before in
-    c .no-twice2 .result ≡ distinct (numbers (run (s .args .first) (s .args .first + s .args .second) (s .args .files)))
+second-is : (c : tie.After-no-twice2) → let a = c .before .before .before .before .before .before .before .args in c .no-twice2 .result ≡ distinct (slice (a .first) (a .first + a .second) (a .t1))
 second-is c =
-    let m = c .before .before .before .before .before .before .before in
-    let a = m .before .args in
-    let q : length (a .files) ≡ 256 = search needs in
-    c .no-twice2 .ensures
-    ∙ ap distinct (column-run (a .first + a .second + a .grand) (a .first) (a .first + a .second) (a .files) (replicate 256 0) (m .numbers-of .result) (omega arith) (omega arith) (omega arith) (m .numbers-of .ensures))
+    let a = c .before .before .before .before .before .before .before .args in
+    c .no-twice2 .ensures ∙ ap distinct (lent-slice (a .first) (a .first + a .second) (a .t1) (omega arith))
 
 returns-2 : tie.Need-returns-2
+unfolding distinctRuns
 returns-2 c =
     let e = c .before .before .before .before in
-    let a = e .before .before .before .before .before .args in
     let t = sym (first-is (e .before)) ∙ not-false (e .before .no-twice .result) (e .if1 .left) in
     let u = sym (second-is (c .before)) ∙ not-true (c .before .no-twice2 .result) (c .if2 .taken) in
-    sym (distinct-three (a .files) (a .first) (a .second) (a .grand) ∙ rw (t, u))
+    sym (rw (t, u))
 
 mul-no-twice-2 : tie.Need-mul-no-twice-2
 mul-no-twice-2 c = search needs
@@ -96,23 +82,20 @@ part-no-twice-end-3 c = search needs
 no-twice-requires-3 : tie.Need-no-twice-requires-3
 no-twice-requires-3 c κs = search needs
 
-third-is : (c : tie.After-no-twice3) → let s = c .before .before .before .before .before .before .before .before .before .before .before .before in
-    c .no-twice3 .result ≡ distinct (numbers (run (s .args .first + s .args .second) (s .args .first + s .args .second + s .args .grand) (s .args .files)))
+third-is : (c : tie.After-no-twice3) → let a = c .before .before .before .before .before .before .before .before .before .before .before .args in
+    c .no-twice3 .result ≡ distinct (slice (a .first + a .second) (a .first + a .second + a .grand) (a .t1))
 third-is c =
-    let m = c .before .before .before .before .before .before .before .before .before .before .before in
-    let a = m .before .args in
-    let q : length (a .files) ≡ 256 = search needs in
-    c .no-twice3 .ensures
-    ∙ ap distinct (column-run (a .first + a .second + a .grand) (a .first + a .second) (a .first + a .second + a .grand) (a .files) (replicate 256 0) (m .numbers-of .result) (omega arith) (omega arith) (omega arith) (m .numbers-of .ensures))
+    let a = c .before .before .before .before .before .before .before .before .before .before .before .args in
+    c .no-twice3 .ensures ∙ ap distinct (lent-slice (a .first + a .second) (a .first + a .second + a .grand) (a .t1) (omega arith))
 
 returns-3 : tie.Need-returns-3
+unfolding distinctRuns
 returns-3 c =
     let f = c .before .before .before in
     let e = f .before .before .before .before in
-    let a = e .before .before .before .before .before .args in
     let t = sym (first-is (e .before)) ∙ not-false (e .before .no-twice .result) (e .if1 .left) in
     let u = sym (second-is (f .before)) ∙ not-false (f .before .no-twice2 .result) (f .if2 .left) in
-    sym (distinct-three (a .files) (a .first) (a .second) (a .grand) ∙ rw (t, u, third-is c))
+    sym (rw (t, u, ← third-is c))
 
 pub are-distinct-spec : {M : Type 1} → statement M
 are-distinct-spec =
@@ -120,7 +103,6 @@ are-distinct-spec =
     (tie.spec
     add-inputs
     add-all
-    numbers-of-requires
     sub-no-twice
     part-no-twice-start
     part-no-twice-end

@@ -9,7 +9,7 @@ use lib.ListN.{length, replicate, length-replicate}
 use Rattle.lemmas.specs.Laying.{put-next}
 use Rattle.lemmas.specs.Slices.{put}
 use Rattle.picked.specs.Picked.{wellPicked, naming}
-use Rattle.picked.specs.PickedLaws.{well-room, well-level, column-run, deletions-ill, deletions-short, names-refused, names-done}
+use Rattle.picked.specs.PickedLaws.{well-room, well-level, column-lent, deletions-ill, deletions-short, names-refused, names-done}
 use Rattle.picked.proofs.Shape.{shape}
 use borrow.Author.Needs.{needs}
 use Rattle.picked.proofs.input_deletions.Statement.{statement}
@@ -108,7 +108,7 @@ returns-4 c =
     put-next (a .levels .now) (f .fill-levels .last .0) (g .fill-levels2 .last .0) 0 (p .first) firsts seconds (omega arith) (f .fill-levels .ensures) (omega arith) (g .fill-levels2 .ensures) in
     names-done p (a .levels .now) (a .numbers .now) q (well e) (omega arith) (g .fill-levels2 .last .0) (n .lay-numbers .last .0) levels
     (n .lay-numbers .ensures
-    ∙ ap (put (a .numbers .now) 0) (column-run inputs 0 inputs (p .files) (replicate 256 0) (m .numbers-of .result) (omega arith) (omega arith) (omega arith) (m .numbers-of .ensures)))
+    ∙ ap (put (a .numbers .now) 0) (column-lent inputs 0 inputs (p .files) (replicate 256 0) (m .numbers-of .result) (omega arith) (omega arith) (omega arith) (m .numbers-of .ensures)))
 
 pub input-deletions-spec : {M : Type 1} → statement M
 input-deletions-spec =

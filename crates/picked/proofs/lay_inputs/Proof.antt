@@ -9,7 +9,7 @@ use Rattle.lemmas.specs.Slices.{put, length-of-map}
 use Rattle.model.specs.File.{numbers}
 use Rattle.records.specs.Run.{run}
 use Rattle.picked.specs.Picked.{deletionAt}
-use Rattle.picked.specs.PickedLaws.{well-level, column-run, deletion-records, named-length}
+use Rattle.picked.specs.PickedLaws.{well-level, column-lent, deletion-records, named-length}
 use Rattle.picked.proofs.Shape.{shape}
 use borrow.Author.Needs.{needs}
 use Rattle.picked.proofs.lay_inputs.Statement.{statement}
@@ -69,10 +69,10 @@ returns c =
     let seconds = map (deletionAt (p .level + 1)) (numbers (run (p .first) n (p .files))) in
     let laid : l .lay-deletions .result ≡ put (s .args .out) (s .args .at) firsts =
     l .lay-deletions .ensures ∙ ap (λ (ns : List ℕ). put (s .args .out) (s .args .at) (map (deletionAt (p .level)) ns))
-    (column-run n 0 (p .first) (p .files) (replicate 256 0) (m .numbers-of .result) (omega arith) (omega arith) (omega arith) (m .numbers-of .ensures)) in
+    (column-lent n 0 (p .first) (p .files) (replicate 256 0) (m .numbers-of .result) (omega arith) (omega arith) (omega arith) (m .numbers-of .ensures)) in
     let both : c .lay-deletions2 .result ≡ put (l .lay-deletions .result) (s .args .at + p .first) seconds =
     c .lay-deletions2 .ensures ∙ ap (λ (ns : List ℕ). put (l .lay-deletions .result) (s .args .at + p .first) (map (deletionAt (p .level + 1)) ns))
-    (column-run n (p .first) n (p .files) (replicate 256 0) (m .numbers-of .result) (omega arith) (omega arith) (omega arith) (m .numbers-of .ensures)) in
+    (column-lent n (p .first) n (p .files) (replicate 256 0) (m .numbers-of .result) (omega arith) (omega arith) (omega arith) (m .numbers-of .ensures)) in
     let size : length firsts ≡ p .first = named-length (p .level) 0 (p .first) (p .files) (omega arith) ∙ omega arith in
     put-next (s .args .out) (l .lay-deletions .result) (c .lay-deletions2 .result) (s .args .at) (s .args .at + p .first) firsts seconds (omega arith) laid (omega arith) both
     ∙ ap (put (s .args .out) (s .args .at)) (sym (deletion-records p))

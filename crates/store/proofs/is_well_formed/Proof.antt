@@ -7,6 +7,7 @@ use Rattle.lemmas.specs.Lists.{all}
 use Rattle.model.specs.File.{goodCounters}
 use Rattle.counters.specs.Counters.{countersOf}
 use Rattle.levels.specs.Levels.{wellLevels}
+use Rattle.levels.specs.LevelsLaws.{survey-room}
 use Rattle.store.specs.Store.{wellPointer, wellStore}
 use Rattle.store.specs.StoreLaws.{well-is}
 use Rattle.store.proofs.Shape.{shape}
@@ -38,18 +39,23 @@ returns-2 c =
     let u = sym (p .are-well-formed-pointers .ensures) ∙ not-true (p .are-well-formed-pointers .result) (c .if2 .taken) in
     sym (parts (b .before .before) ∙ rw (t, u))
 
+survey-requires : tie.Need-survey-requires
+survey-requires c κs = search needs
+
 are-well-formed-requires : tie.Need-are-well-formed-requires
-are-well-formed-requires c κs = search needs
+are-well-formed-requires c κs =
+    let s = c .before .before .before .before .before .before .before .before .before .args .s in
+    rw (c .survey .ensures .0) (survey-room (s .files) (s .counts))
 
 returns-3 : tie.Need-returns-3
 returns-3 c =
-    let f = c .before .before .before in
+    let f = c .before .before .before .before in
     let p = f .before in
     let e = p .before .before in
     let b = e .before in
     let t = sym (b .are-bounded .ensures) ∙ not-false (b .are-bounded .result) (e .if1 .left) in
     let u = sym (p .are-well-formed-pointers .ensures) ∙ not-false (p .are-well-formed-pointers .result) (f .if2 .left) in
-    sym (parts (b .before .before) ∙ rw (t, u) (sym (c .are-well-formed .ensures)))
+    sym (parts (b .before .before) ∙ rw (t, u) (sym (c .are-well-formed .ensures ∙ c .before .survey .ensures .1)))
 
 pub is-well-formed-spec : {M : Type 1} → statement M
 is-well-formed-spec =
@@ -59,5 +65,6 @@ is-well-formed-spec =
     returns
     are-well-formed-pointers-requires
     returns-2
+    survey-requires
     are-well-formed-requires
     returns-3)
