@@ -24,13 +24,14 @@ use Rattle.records.specs.RecordLaws.{past, AllShaped, vacant-blank, files-of-re
 use Rattle.records.specs.declared.FileRecord.{FileRecord}
 use Rattle.levels.specs.Levels.{levelsOf, laidOut, countsOf, soundLevels}
 use Rattle.levels.specs.LevelsLaws as levels
-use Rattle.builder.specs.Builder.{recordNumber, stayersFrom, recordBefore, sortedLevels, areLevels, filesOf, merges, mergedOf}
+use Rattle.stayers.specs.Stayers.{recordNumber}
+use Rattle.stayers.specs.StayLaws.{staysIn, stays-left, remainingFrom, survivors-distinct, stayers-remain, stayers-length, stayers-sub, remaining-distinct, remaining-levels}
+use Rattle.arrangement.specs.Arrangement.{recordBefore, areLevels}
+use Rattle.arrangement.specs.ArrangeLaws.{record-order, sorted-levels, sorted-in, sorted-length}
+use Rattle.builder.specs.Builder.{filesOf, merges, mergedOf}
 use Rattle.builder.specs.declared.Merged.{Merged}
-use Rattle.builder.specs.StayLaws.{staysIn, stays-left, remainingFrom, survivors-distinct, stayers-remain, stayers-length, stayers-sub, remaining-distinct, remaining-levels}
-use Rattle.builder.specs.ArrangeLaws.{record-order, sorted-levels, sorted-in, sorted-length}
 use Rattle.builder.specs.MergeLaws.{merges-length, survivors-merged}
-use Rattle.apply.specs.Apply.{additionsFine}
-use Rattle.apply.specs.ColumnLaws.{levelIn, fileIn, numberIn}
+use Rattle.apply.specs.Apply.{additionsFine, levelIn, fileIn, numberIn, staying, ordered, united}
 
 -- ---- additions that name a level and a file as document 01 has it
 module _ (m : model.Edit) (fine : additionsFine m ≡ true) where
@@ -94,18 +95,6 @@ laid-sound ls room sound =
       records = rw (put-front (vacant 256) rs, take-at rs (drop (length rs) (vacant 256)) n e) sound;
       blanks = rw (put-front (vacant 256) rs, drop-at rs (drop (length rs) (vacant 256)) n e) (all-drop isBlank (length rs) (vacant 256) (vacant-blank 256));
     }
-
--- what stays of levels by an edit
-abbrev pub staying : List FileRecord → List ℕ → model.Edit → List (List FileRecord)
-staying files counts m = stayersFrom (staysIn m) 0 (parts files counts)
-
--- the additions of an edit, in order at each level
-abbrev pub ordered : model.Edit → List (List FileRecord)
-ordered m = sortedLevels recordBefore (map levelIn (m .additions)) (map recordOf (map fileIn (m .additions)))
-
--- the two merged
-abbrev pub united : List FileRecord → List ℕ → model.Edit → List (List FileRecord)
-united files counts m = merges (staying files counts m) (ordered m)
 
 -- well-formed levels, and an edit whose additions are fine
 pub record Ready (files : List FileRecord) (counts : List ℕ) (m : model.Edit) : Type 0 where
@@ -192,19 +181,17 @@ module _ (files : List FileRecord) (counts : List ℕ) (m : model.Edit) (g : Rea
     unfolding mergedOf
     made-fits = ap (λ (y : Merged). y .fits) e ∙ ap (levelwise noCollision 0) united-files
 
-    -- cut by their counts they stand for the survivors
-    made-levels : levelsOf (x .files) (x .counts) ≡ survivorsFrom m 0 (levelsOf files counts)
-    unfolding levelsOf mergedOf
-    made-levels =
-        ap (λ (y : Merged). levelsOf (y .files) (y .counts)) e ∙ ap (map (map fileOf)) (put-parts (vacant (full .room)) (united files counts m)) ∙ united-files
-
-    -- they are the one array and the counts that hold the survivors
-    pub made-is : length (join (staying files counts m)) + length (m .additions) ≤ 256 → AllShaped (x .files)
-        → (x .files ≡ laidOut (survivorsFrom m 0 (levelsOf files counts))) × (x .counts ≡ countsOf (survivorsFrom m 0 (levelsOf files counts)))
-    unfolding mergedOf full vacant
-    made-is fits shaped =
+    -- they are the one array, and with their counts the one list, that hold the survivors
+    pub made-is : (cs : List ℕ) → cs ≡ map length (united files counts m) → length (join (staying files counts m)) + length (m .additions) ≤ 256 → AllShaped (x .files)
+        → (x .files ≡ laidOut (survivorsFrom m 0 (levelsOf files counts))) × (cs ≡ countsOf (survivorsFrom m 0 (levelsOf files counts)))
+    unfolding mergedOf full vacant levelsOf
+    made-is cs q fits shaped =
         let rs = join (united files counts m) in
-        let long : length (x .files) ≡ 256 = ap (λ (y : Merged). length (y .files)) e ∙ length-put (replicate 256 blank) 0 rs (omega (arith, united-length, length-replicate 256 blank)) ∙ length-replicate 256 blank in
-        let sound = ap (λ (y : Merged). soundLevels (y .files) (y .counts)) e ∙ laid-sound (united files counts m) (omega (arith, united-length)) united-sound in
-        let s = levels.sound-is (x .files) (x .counts) long shaped sound in
-        (s .0 ∙ ap laidOut made-levels, s .1 ∙ ap countsOf made-levels)
+        let ns = map length (united files counts m) in
+        let laid : x .files ≡ put (replicate 256 blank) 0 rs = ap (λ (y : Merged). y .files) e in
+        let made : levelsOf (x .files) ns ≡ survivorsFrom m 0 (levelsOf files counts) =
+        ap (λ (z : List FileRecord). levelsOf z ns) laid ∙ ap (map (map fileOf)) (put-parts (vacant (full .room)) (united files counts m)) ∙ united-files in
+        let long : length (x .files) ≡ 256 = ap length laid ∙ length-put (replicate 256 blank) 0 rs (omega (arith, united-length, length-replicate 256 blank)) ∙ length-replicate 256 blank in
+        let sound = ap (λ (z : List FileRecord). soundLevels z ns) laid ∙ laid-sound (united files counts m) (omega (arith, united-length)) united-sound in
+        let s = levels.sound-is (x .files) ns long shaped sound in
+        (s .0 ∙ ap laidOut made, q ∙ s .1 ∙ ap countsOf made)

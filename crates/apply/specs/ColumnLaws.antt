@@ -8,7 +8,7 @@ use lib.Seq.{length-take-le}
 use Rattle.lemmas.specs.Slices.{put, put-map}
 use Rattle.lemmas.specs.Maps.{map-same, map-replicate}
 use Rattle.lemmas.specs.Merge.{front-laid}
-use Rattle.model.specs.File.{File, full}
+use Rattle.model.specs.File.{full}
 use Rattle.model.specs.Edit as model
 use Rattle.keys.specs.Key.{keyOf, keyRecord}
 use Rattle.keys.specs.KeyLaws.{keyOf-length, keyOf-record}
@@ -21,53 +21,17 @@ use Rattle.edits.specs.EditLaws.{HasRoom, Few, deletions-are, additions-are}
 use Rattle.edits.specs.declared.Edit.{Edit}
 use Rattle.edits.specs.declared.Deletion.{Deletion}
 use Rattle.edits.specs.declared.Addition.{Addition}
-use Rattle.builder.specs.Builder.{staysBy, keyAt}
-use Rattle.builder.specs.StayLaws.{staysIn}
-use Rattle.apply.specs.Apply.{deletionColumns, noKeys, levelsIn, numbersIn, newColumns, newsOf}
+use Rattle.stayers.specs.Stayers.{staysBy}
+use Rattle.stayers.specs.StayLaws.{staysIn}
+use Rattle.arrangement.specs.Arrangement.{keyAt}
+use Rattle.apply.specs.Apply.{levelsGone, numbersGone, noKeys, levelsIn, numbersIn, keysIn, newsOf, levelIn, fileIn, numberIn}
 
--- the level of an addition
-abbrev pub levelIn : model.Addition → ℕ
-levelIn a = a .level
-
--- its file
-abbrev pub fileIn : model.Addition → File
-fileIn a = a .file
-
--- its number
-abbrev pub numberIn : model.Addition → ℕ
-numberIn a = a .file .number
-
--- ---- the front of an array over which a column was laid
-
-front : {A B : Type 0} (d : List B) (f : A → B) (xs : List A) (k : ℕ) → k ≡ length xs → take k (put d 0 (map f xs)) ≡ map f xs
-front d f xs k e = front-laid d (put d 0 (map f xs)) (map f xs) k (omega (arith, length-map xs f)) refl
-
-module _ (ds : List Deletion) (k : ℕ) (q : k ≡ length ds) where
-  -- the levels of deletions
-  pub gone-levels : take k (deletionColumns ds .levels) ≡ map (λ (d : Deletion). d .level) ds
-  unfolding deletionColumns
-  gone-levels = front (replicate (full .deletions) 0) (λ (d : Deletion). d .level) ds k q
-
-  -- their numbers
-  pub gone-numbers : take k (deletionColumns ds .numbers) ≡ map (λ (d : Deletion). d .number .0) ds
-  unfolding deletionColumns
-  gone-numbers = front (replicate (full .deletions) 0) (λ (d : Deletion). d .number .0) ds k q
-
-module _ (as′ : List Addition) (k : ℕ) (q : k ≡ length as′) where
-  -- the levels of additions
-  pub new-levels : take k (newColumns as′ .levels) ≡ levelsIn as′
-  unfolding newColumns levelsIn
-  new-levels = front (replicate (full .additions) 0) (λ (a : Addition). a .level) as′ k q
-
-  -- their numbers
-  pub new-numbers : take k (newColumns as′ .numbers) ≡ numbersIn as′
-  unfolding newColumns numbersIn
-  new-numbers = front (replicate (full .additions) 0) (λ (a : Addition). a .number .0) as′ k q
-
-  -- their records
-  pub new-files : take k (newsOf as′) ≡ map (λ (a : Addition). recordOf (additionOf a .file)) as′
-  unfolding newsOf
-  new-files = front (vacant (full .additions)) (λ (a : Addition). recordOf (additionOf a .file)) as′ k q
+-- the front of the records that are kept of additions
+pub new-files : (as′ : List Addition) (k : ℕ) → k ≡ length as′ → take k (newsOf as′) ≡ map (λ (a : Addition). recordOf (additionOf a .file)) as′
+unfolding newsOf
+new-files as′ k q =
+    let kept : Addition → FileRecord = λ a. recordOf (additionOf a .file) in
+    front-laid (vacant (full .additions)) (newsOf as′) (map kept as′) k (omega (arith, length-map as′ kept)) refl
 
 -- what is kept of an addition's smallest key stands for it
 kept : (a : Addition) → keyOf (a .smallest) ≡ keyOf (recordOf (additionOf a .file) .smallest)
@@ -75,8 +39,8 @@ unfolding recordOf additionOf
 kept a = sym (keyOf-record (keyOf (a .smallest)) (keyOf-length (a .smallest)))
 
 -- at every place the key of the column is the smallest key of the record
-pub keys-are : (as′ : List Addition) (p : ℕ) → keyAt (newColumns as′ .keys) p ≡ keyOf (getD (newsOf as′) p past .smallest)
-unfolding keyAt newColumns newsOf noKeys vacant blank
+pub keys-are : (as′ : List Addition) (p : ℕ) → keyAt (keysIn as′) p ≡ keyOf (getD (newsOf as′) p past .smallest)
+unfolding keyAt keysIn newsOf noKeys vacant blank
 keys-are as′ p =
     let low : FileRecord → List ℕ = λ r. keyOf (r .smallest) in
     let none : Key = record { bytes = []; len = 0 } in
@@ -126,8 +90,8 @@ module _ (e : Edit) (r : HasRoom e) (w : Few e) where
       ∙ map-map recordOf (λ (a : Addition). additionOf a .file) new)
 
   -- so the test of what stays is the edit's
-  pub stays-is : staysBy (map (λ (d : Deletion). d .level) gone) (map (λ (d : Deletion). d .number .0) gone) (levelsIn new) (numbersIn new) ≡ staysIn (editOf e)
-  unfolding deletionOf
+  pub stays-is : staysBy (levelsGone gone) (numbersGone gone) (levelsIn new) (numbersIn new) ≡ staysIn (editOf e)
+  unfolding deletionOf levelsGone numbersGone
   stays-is =
       let a = ap (map (λ (d : model.Deletion). d .level)) (deletions-are e w) ∙ map-map (λ (d : model.Deletion). d .level) deletionOf gone in
       let b = ap (map (λ (d : model.Deletion). d .number)) (deletions-are e w) ∙ map-map (λ (d : model.Deletion). d .number) deletionOf gone in

@@ -33,8 +33,7 @@ use Rattle.edits.specs.EditLaws as entries
 use Rattle.edits.specs.EditLaws.{Few, Checked, passed-is, passed-refused, passed-none}
 use Rattle.edits.specs.declared.Edit.{Edit}
 use Rattle.edits.specs.declared.Pointing.{Pointing}
-use Rattle.builder.specs.declared.Merged.{Merged}
-use Rattle.apply.specs.Apply.{additionsFine, crowding, acceptedBy, pointedBy}
+use Rattle.apply.specs.Apply.{additionsFine, crowding, pointedBy}
 
 -- ---- pointers
 
@@ -107,14 +106,13 @@ module _ (s : Store) (m : model.Edit) (ns : List ℕ) (once : distinct ns ≡ di
 
     -- none do: the survivors, and only then the pointers and the log number
     pub rebuilt-done : levelwise noCollision 0 (survivorsFrom m 0 (stateOf s .files)) ≡ true
-        → (x : Merged) → x .files ≡ laidOut (survivorsFrom m 0 (stateOf s .files)) → x .counts ≡ countsOf (survivorsFrom m 0 (stateOf s .files))
-        → (ps : List Pointer) → ps ≡ map pointerRecord (pointed (m .pointers) (stateOf s .pointers))
-        → (c : Counters) → c ≡ countersRecord (logged (m .log) (stateOf s .counters))
-        → acceptedBy x ps c ≡ stored s (firstOf (resultRefusals full (survivorsFrom m 0 (stateOf s .files))) (applied m (stateOf s)))
-    unfolding acceptedBy firstOf _⇒_ applied stored leaves storeOf outcomeOf
-    rebuilt-done apart x f n ps p c q =
+        → (t : Store) → t .files ≡ laidOut (survivorsFrom m 0 (stateOf s .files)) → t .counts ≡ countsOf (survivorsFrom m 0 (stateOf s .files))
+        → t .pointers ≡ map pointerRecord (pointed (m .pointers) (stateOf s .pointers)) → t .counters ≡ countersRecord (logged (m .log) (stateOf s .counters))
+        → record { store = t; outcome = Done } ≡ stored s (firstOf (resultRefusals full (survivorsFrom m 0 (stateOf s .files))) (applied m (stateOf s)))
+    unfolding firstOf _⇒_ applied stored leaves storeOf outcomeOf
+    rebuilt-done apart t f n p c =
         let none : firstOf ((not (levelwise noCollision 0 (survivorsFrom m 0 (stateOf s .files))) ⇒ 7) ∷ []) (applied m (stateOf s)) ≡ gives (applied m (stateOf s)) = rw apart in
-        (λ i. record { outcome = Done; store = record { files = f i; counts = n i; pointers = p i; counters = q i } }) ∙ ap (stored s) (sym (left ∙ none))
+        (λ i. record { store = record { files = f i; counts = n i; pointers = p i; counters = c i }; outcome = Done }) ∙ ap (stored s) (sym (left ∙ none))
 
 -- ---- the state and the entries
 

@@ -21,13 +21,16 @@ use Rattle.edits.specs.EditLaws.{HasRoom, Few}
 use Rattle.edits.specs.declared.Edit.{Edit}
 use Rattle.edits.specs.declared.Deletion.{Deletion}
 use Rattle.edits.specs.declared.Addition.{Addition}
-use Rattle.builder.specs.Builder.{recordNumber, staysBy, stayersBy, numberAt, placesOf, isBelow, keptOf, recordsAt, filesOf, recordBefore, keyBefore, sortedLevels, areLevels, arrangedOf, merges, mergedOf}
-use Rattle.builder.specs.StayLaws.{staysIn, stayers-few}
-use Rattle.builder.specs.ArrangeLaws.{key-order, sorted-length}
-use Rattle.builder.specs.PlaceLaws as place
-use Rattle.apply.specs.Apply.{levelsIn, numbersIn, newColumns, newsOf, stayPlaces, newPlaces, crowding, planOf}
+use Rattle.stayers.specs.Stayers.{recordNumber, staysBy, stayersBy, numberAt, placesOf, isBelow, keptOf, recordsAt}
+use Rattle.stayers.specs.StayLaws.{staysIn, stayers-few}
+use Rattle.stayers.specs.PlaceLaws as place
+use Rattle.arrangement.specs.Arrangement.{recordBefore, keyBefore, sortedLevels, areLevels, arrangedOf}
+use Rattle.arrangement.specs.ArrangeLaws.{key-order, sorted-length, sorted-records, sorted-below}
+use Rattle.builder.specs.Builder.{filesOf, merges, mergedOf, sums}
+use Rattle.builder.specs.MergeLaws.{merges-sums}
+use Rattle.apply.specs.Apply.{levelsGone, numbersGone, levelsIn, numbersIn, keysIn, newsOf, stayPlaces, newPlaces, crowding, planOf, fileIn, staying, ordered, united}
 use Rattle.apply.specs.ColumnLaws as entries
-use Rattle.apply.specs.BuildLaws.{Ready, staying, ordered, united, fine-are, staying-ordered, staying-distinct, twice-is, survivors-length}
+use Rattle.apply.specs.BuildLaws.{Ready, fine-are, staying-ordered, staying-distinct, twice-is, survivors-length}
 use Rattle.apply.specs.declared.Plan.{Plan}
 
 -- ---- the places that stay
@@ -36,7 +39,7 @@ module _ (column counts : List ℕ) (ds : List Deletion) (as′ : List Addition)
   pub stay-few : length (join (stayPlaces column counts ds as′)) ≤ sum counts
   unfolding stayPlaces
   stay-few =
-      let test = staysBy (map (λ (d : Deletion). d .level) ds) (map (λ (d : Deletion). d .number .0) ds) (levelsIn as′) (numbersIn as′) in
+      let test = staysBy (levelsGone ds) (numbersGone ds) (levelsIn as′) (numbersIn as′) in
       omega (arith, stayers-few (numberAt column) test 0 (placesOf counts), ap length (place.places-joined counts room), upFrom-length 0 (sum counts))
 
   -- each is a place of the base
@@ -130,16 +133,16 @@ module _ (files : List FileRecord) (counts : List ℕ) (e : Edit) (r : HasRoom e
       let n = entries.new-length e r w in
       let few = w .additions in
       let long : k ≤ length (newsOf as′) = omega (arith, length-put (replicate 64 blank) 0 (map (λ (a : Addition). recordOf (additionOf a .file)) as′) (omega (arith, length-map as′ (λ (a : Addition). recordOf (additionOf a .file)), length-replicate 64 blank)), length-replicate 64 blank) in
-      place.sorted-records (newsOf as′) (newColumns as′ .keys) (levelsIn as′) k long (entries.keys-are as′)
+      sorted-records (newsOf as′) (keysIn as′) (levelsIn as′) k long (entries.keys-are as′)
       ∙ ap (sortedLevels recordBefore (levelsIn as′)) (entries.new-files as′ k refl ∙ entries.records-are e r w)
-      ∙ ap (λ (ks : List ℕ). sortedLevels recordBefore ks (map recordOf (map entries.fileIn (editOf e .additions)))) (entries.levels-are e r w)
+      ∙ ap (λ (ks : List ℕ). sortedLevels recordBefore ks (map recordOf (map fileIn (editOf e .additions)))) (entries.levels-are e r w)
 
   -- as many as the edit adds
   new-size : length (join (newPlaces (entries.new e r w))) ≡ e .«addition_count»
   unfolding newPlaces levelsIn
   new-size =
       let as′ = entries.new e r w in
-      let keys = newColumns as′ .keys in
+      let keys = keysIn as′ in
       sorted-length (keyBefore keys) (key-order keys) (levelsIn as′) (upFrom 0 (length as′)) 0 levels-fine (length-map as′ (λ (a : Addition). a .level) ∙ sym (upFrom-length 0 (length as′)))
       ∙ upFrom-length 0 (length as′) ∙ entries.new-length e r w
 
@@ -166,7 +169,7 @@ module _ (files : List FileRecord) (counts : List ℕ) (e : Edit) (r : HasRoom e
         let h = w .additions in
         let n = entries.new-length e r w in
         ap (λ (x : Plan). isBelow 64 (x .order)) q
-        ∙ place.below-laid 64 64 (join (newPlaces as′)) (omega arith) (place.below-of 64 (join (newPlaces as′)) (λ p i. omega (arith, place.sorted-below _ _ (length as′) p i)))
+        ∙ place.below-laid 64 64 (join (newPlaces as′)) (omega arith) (place.below-of 64 (join (newPlaces as′)) (λ p i. omega (arith, sorted-below _ _ (length as′) p i)))
 
     -- as many additions as the edit has
     pub plan-news : sum (p .«new_counts») ≡ e .«addition_count»
@@ -209,3 +212,12 @@ module _ (files : List FileRecord) (counts : List ℕ) (e : Edit) (r : HasRoom e
     pub plan-merged : (news : List FileRecord) → news ≡ newsOf (entries.new e r w)
         → mergedOf (merges (parts (recordsAt files (p .places)) (p .counts)) (parts (recordsAt news (p .order)) (p .«new_counts»))) ≡ mergedOf (united files counts (editOf e))
     plan-merged news f = rw (plan-stays, plan-adds news f)
+
+    -- the counts together are those of the survivors
+    pub plan-counts : sums (p .counts) (p .«new_counts») ≡ map length (united files counts (editOf e))
+    unfolding planOf keptOf arrangedOf
+    plan-counts =
+        let new = newPlaces (entries.new e r w) in
+        let old : map length stay ≡ map length (staying files counts (editOf e)) = sym (place.lengths-at files stay) ∙ ap (map length) stay-stands in
+        let adds : map length new ≡ map length (ordered (editOf e)) = sym (place.lengths-at (newsOf (entries.new e r w)) new) ∙ ap (map length) new-stands in
+        ap (λ (x : Plan). sums (x .counts) (x .«new_counts»)) q ∙ rw (old, adds) (sym (merges-sums (staying files counts (editOf e)) (ordered (editOf e))))

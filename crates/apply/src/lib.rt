@@ -2,12 +2,12 @@
 ghost use mathlib.Core.Path.{_≡_};
 ghost use mathlib.Core.Bool.{true};
 ghost use mathlib.Core.List.{[], _∷_, map};
-ghost use Prim.Native.Nat.{_≤_};
+ghost use Prim.Native.Nat.{_+_, _≤_};
 ghost use lib.Dec.{ltb};
 ghost use lib.ListN.{length, take, replicate};
 ghost use Rattle.lemmas.specs.Lists.{distinct, join, sum};
 ghost use Rattle.lemmas.specs.Slices.{put};
-ghost use Rattle.model.specs.Answer.{firstOf, _⇒_};
+ghost use Rattle.model.specs.Answer.{_⇒_};
 ghost use Rattle.model.specs.File.{full};
 ghost use Rattle.model.specs.Edit as model;
 ghost use Rattle.answers.specs.declared.Outcome.the-variants as outcome;
@@ -16,8 +16,10 @@ ghost use Rattle.records.specs.Record.{vacant};
 ghost use Rattle.records.specs.declared.FileRecord as declared;
 ghost use Rattle.store.specs.Store.{stateOf, wellStore, onStore, stored};
 ghost use Rattle.edits.specs.Edit.{editOf, logOf, passed, checks};
-ghost use Rattle.builder.specs.Builder.{areLevels, numberAt};
-ghost use Rattle.apply.specs.Apply.{deletionColumns, noKeys, newColumns, newsOf, levelsIn, stayPlaces, planOf, acceptedBy, pointedBy};
+ghost use Rattle.stayers.specs.Stayers.{numberAt};
+ghost use Rattle.arrangement.specs.Arrangement.{areLevels};
+ghost use Rattle.builder.specs.Builder.{mergedOf};
+ghost use Rattle.apply.specs.Apply.{levelsGone, numbersGone, noKeys, keysIn, newsOf, levelsIn, numbersIn, stayPlaces, planOf, planFor, acceptedBy, pointedBy, united};
 use answers::Outcome;
 use answers::Refusal;
 use builder::Merged;
@@ -33,19 +35,6 @@ use store::Pointer;
 use store::Store;
 use store::Stored;
 
-// The levels and the numbers of an edit's deletions, side by side.
-struct DeletionColumns {
-    levels: [usize; 256],
-    numbers: [u64; 256],
-}
-
-// The levels, the numbers and the smallest keys of an edit's additions, side by side.
-struct NewColumns {
-    levels: [usize; 64],
-    numbers: [u64; 64],
-    keys: [Key; 64],
-}
-
 // What an edit will make of a base: whether 6 or 8 applies; where the files that stay stand, level after level; the order of the additions, level after level.
 struct Plan {
     outcome: Outcome,
@@ -55,13 +44,16 @@ struct Plan {
     new_counts: [usize; 7],
 }
 
-// The levels and the numbers of the first `count` deletions.
-fn deletion_columns(deletions: [Deletion; 256], count: usize) -> DeletionColumns
-    requires { ⌜ count ≤ 256 ⌝ }
-    ensures { λ r. ⌜ r ≡ deletionColumns (take count deletions) ⌝ }
+// Lays the levels and the numbers of the first `count` deletions over the fronts of two columns.
+fn deletion_columns(
+    deletions: [Deletion; 256],
+    count: usize,
+    levels: &mut [usize],
+    numbers: &mut [u64],
+)
+    requires { ⌜ (count ≤ 256) × (count ≤ length (now levels)) × (count ≤ length (now numbers)) ⌝ }
+    ensures { λ _. ⌜ (now (levels .exit) ≡ put (now (levels .entry)) 0 (levelsGone (take count deletions))) × (now (numbers .exit) ≡ put (now (numbers .entry)) 0 (numbersGone (take count deletions))) ⌝ }
 {
-    let mut levels = [0usize; 256];
-    let mut numbers = [0u64; 256];
     let mut i: usize = 0;
     while i < count {
         let d = deletions[i];
@@ -69,10 +61,6 @@ fn deletion_columns(deletions: [Deletion; 256], count: usize) -> DeletionColumns
         levels[i] = d.level;
         numbers[i] = n.0;
         i += 1;
-    }
-    DeletionColumns {
-        levels: levels,
-        numbers: numbers,
     }
 }
 
@@ -83,13 +71,16 @@ fn no_keys() -> [Key; 64]
     [keys::BLANK_KEY; 64]
 }
 
-// The levels, the numbers and the smallest keys of the first `count` additions.
-fn new_columns(additions: [Addition; 64], count: usize) -> NewColumns
-    requires { ⌜ count ≤ 64 ⌝ }
-    ensures { λ r. ⌜ r ≡ newColumns (take count additions) ⌝ }
+// The smallest keys of the first `count` additions; their levels and their numbers laid over the fronts of two columns.
+fn new_columns(
+    additions: [Addition; 64],
+    count: usize,
+    levels: &mut [usize],
+    numbers: &mut [u64],
+) -> [Key; 64]
+    requires { ⌜ (count ≤ 64) × (count ≤ length (now levels)) × (count ≤ length (now numbers)) ⌝ }
+    ensures { λ r. ⌜ (r ≡ keysIn (take count additions)) × (now (levels .exit) ≡ put (now (levels .entry)) 0 (levelsIn (take count additions))) × (now (numbers .exit) ≡ put (now (numbers .entry)) 0 (numbersIn (take count additions))) ⌝ }
 {
-    let mut levels = [0usize; 64];
-    let mut numbers = [0u64; 64];
     let mut keys = no_keys();
     let mut i: usize = 0;
     while i < count {
@@ -101,11 +92,7 @@ fn new_columns(additions: [Addition; 64], count: usize) -> NewColumns
         keys[i] = low;
         i += 1;
     }
-    NewColumns {
-        levels: levels,
-        numbers: numbers,
-        keys: keys,
-    }
+    keys
 }
 
 // Places for an edit's additions, all empty.
@@ -133,15 +120,15 @@ fn new_records(additions: [Addition; 64], count: usize) -> [FileRecord; 64]
     files
 }
 
-// The numbers of the first `size` files of a store, zeros past them.
-fn column_of(s: Store, size: usize) -> [u64; 256]
+// The numbers of the first `size` files, zeros past them.
+fn column_of(files: [FileRecord; 256], size: usize) -> [u64; 256]
     requires { ⌜ size ≤ 256 ⌝ }
-    ensures { λ r. ⌜ r ≡ put (replicate 256 0) 0 (map (λ (f : declared.FileRecord). f .number .0) (take size (s .files))) ⌝ }
+    ensures { λ r. ⌜ r ≡ put (replicate 256 0) 0 (map (λ (f : declared.FileRecord). f .number .0) (take size files)) ⌝ }
 {
     let mut column = [0u64; 256];
     let mut i: usize = 0;
     while i < size {
-        let f = s.files[i];
+        let f = files[i];
         let n = f.number;
         column[i] = n.0;
         i += 1;
@@ -174,14 +161,13 @@ fn planned(
     requires { ⌜ (sum counts ≤ length (now column)) × (length (now column) ≤ 256) × (distinct (map (numberAt (now column)) (join (stayPlaces (now column) counts (take m deletions) (take k additions)))) ≡ true) × (m ≤ 256) × (k ≤ 64) × (areLevels (levelsIn (take k additions)) ≡ true) ⌝ }
     ensures { λ r. ⌜ r ≡ planOf (now (column .entry)) counts (take m deletions) (take k additions) ⌝ }
 {
-    let gone = deletion_columns(deletions, m);
-    let gone_levels = gone.levels;
-    let gone_numbers = gone.numbers;
-    let new = new_columns(additions, k);
-    let new_levels = new.levels;
-    let new_numbers = new.numbers;
-    let new_keys = new.keys;
-    let kept = builder::stay(
+    let mut gone_levels = [0usize; 256];
+    let mut gone_numbers = [0u64; 256];
+    deletion_columns(deletions, m, &mut gone_levels, &mut gone_numbers);
+    let mut new_levels = [0usize; 64];
+    let mut new_numbers = [0u64; 64];
+    let new_keys = new_columns(additions, k, &mut new_levels, &mut new_numbers);
+    let kept = stayers::stay(
         column,
         counts,
         &gone_levels[..m],
@@ -192,10 +178,10 @@ fn planned(
     let places = kept.places;
     let kept_counts = kept.counts;
     let n = kept.total;
-    let kept_numbers = builder::numbers_at(column, &places[..n]);
-    let twice = builder::has_twice(&kept_numbers[..n], &new_numbers[..k]);
+    let kept_numbers = stayers::numbers_at(column, &places[..n]);
+    let twice = stayers::has_twice(&kept_numbers[..n], &new_numbers[..k]);
     let outcome = crowded(twice, n + k);
-    let arranged = builder::arrange(new_keys, &new_levels[..k]);
+    let arranged = arrangement::arrange(new_keys, &new_levels[..k]);
     let order = arranged.order;
     let new_counts = arranged.counts;
     Plan {
@@ -244,69 +230,69 @@ fn with_log(c: Counters, log: NewLog) -> Counters
     }
 }
 
-// A store of merged files, with its pointers and counters.
-fn accepted(merged: Merged, pointers: [Pointer; 7], counters: Counters) -> Stored
-    ensures { λ r. ⌜ r ≡ acceptedBy merged pointers counters ⌝ }
+// What an edit whose store and entries have been tested will make of the store.
+fn plan_for(s: Store, e: Edit) -> Plan
+    requires { ⌜ (wellStore s ≡ true) × (passed (checks (stateOf s .counters) (editOf e)) ≡ outcome.Done) ⌝ }
+    ensures { λ r. ⌜ r ≡ planFor s e ⌝ }
 {
-    let files = merged.files;
-    let counts = merged.counts;
+    let counts = s.counts;
+    let size = levels::counted(counts);
+    let files = s.files;
+    let column = column_of(files, size);
+    let deletions = e.deletions;
+    let additions = e.additions;
+    planned(
+        &column[..size],
+        counts,
+        deletions,
+        e.deletion_count,
+        additions,
+        e.addition_count,
+    )
+}
+
+// The survivors, by a plan that is neither 6 nor 8: what stays and what is added, merged.
+fn survive(s: Store, e: Edit, p: Plan) -> Merged
+    requires { ⌜ (wellStore s ≡ true) × (passed (checks (stateOf s .counters) (editOf e)) ≡ outcome.Done) × (p ≡ planFor s e) × (p .outcome ≡ outcome.Done) ⌝ }
+    ensures { λ r. ⌜ r ≡ mergedOf (united (s .files) (s .counts) (editOf e)) ⌝ }
+{
+    let additions = e.additions;
+    let news = new_records(additions, e.addition_count);
+    let files = s.files;
+    let places = p.places;
+    let counts = p.counts;
+    let order = p.order;
+    let new_counts = p.new_counts;
+    builder::merge(files, places, counts, news, order, new_counts)
+}
+
+// The store that an edit leaves whose survivors have been built: its counts, and only then its pointers and its log number.
+fn accepted(s: Store, e: Edit, p: Plan, files: [FileRecord; 256]) -> Stored
+    requires { ⌜ (sum (p .counts) + sum (p .«new_counts») ≤ 256) × (e .«pointing_count» ≤ 16) ⌝ }
+    ensures { λ r. ⌜ r ≡ acceptedBy s e p files ⌝ }
+{
+    let kept_counts = p.counts;
+    let new_counts = p.new_counts;
+    let counts = builder::together(kept_counts, new_counts);
+    let old = s.pointers;
+    let pointings = e.pointings;
+    let pointers = point(old, pointings, e.pointing_count);
+    let before = s.counters;
+    let log = e.log;
+    let counters = with_log(before, log);
     let outcome = Outcome::Done;
     Stored {
-        outcome: outcome,
         store: Store {
             files: files,
             counts: counts,
             pointers: pointers,
             counters: counters,
         },
+        outcome: outcome,
     }
 }
 
-// The rest of an edit whose store and entries have been tested: nothing is changed before the build is known to succeed.
-fn rebuild(s: Store, e: Edit) -> Stored
-    requires { ⌜ (wellStore s ≡ true) × (passed (checks (stateOf s .counters) (editOf e)) ≡ outcome.Done) ⌝ }
-    ensures { λ r. ⌜ r ≡ stored s (firstOf (model.resultRefusals full (model.survivorsFrom (editOf e) 0 (stateOf s .files))) (model.applied (editOf e) (stateOf s))) ⌝ }
-{
-    let counts = s.counts;
-    let size = levels::counted(counts);
-    let column = column_of(s, size);
-    let deletions = e.deletions;
-    let additions = e.additions;
-    let k = e.addition_count;
-    let p = planned(
-        &column[..size],
-        counts,
-        deletions,
-        e.deletion_count,
-        additions,
-        k,
-    );
-    let o = p.outcome;
-    match o {
-        Outcome::Refused(n) => store::refuse(s, n),
-        Outcome::Done => {
-            let news = new_records(additions, k);
-            let files = s.files;
-            let places = p.places;
-            let kept_counts = p.counts;
-            let order = p.order;
-            let new_counts = p.new_counts;
-            let merged = builder::merge(files, places, kept_counts, news, order, new_counts);
-            if !merged.fits {
-                return store::refuse(s, Refusal::COLLISION);
-            }
-            let pointers = s.pointers;
-            let pointings = e.pointings;
-            let pointed = point(pointers, pointings, e.pointing_count);
-            let counters = s.counters;
-            let log = e.log;
-            let logged = with_log(counters, log);
-            accepted(merged, pointed, logged)
-        }
-    }
-}
-
-// One edit on one store.
+// One edit on one store: nothing is changed before the build is known to succeed. Each refusal returns by itself, so that the store is copied once.
 pub fn apply(s: Store, e: Edit) -> Stored
     ensures { λ r. ⌜ r ≡ stored s (onStore s (λ t. model.edit full t (editOf e))) ⌝ }
 {
@@ -316,7 +302,23 @@ pub fn apply(s: Store, e: Edit) -> Stored
     let counters = s.counters;
     let o = edits::check(counters, e);
     match o {
-        Outcome::Refused(n) => store::refuse(s, n),
-        Outcome::Done => rebuild(s, e),
+        Outcome::Refused(n) => {
+            return store::refuse(s, n);
+        }
+        Outcome::Done => {}
     }
+    let p = plan_for(s, e);
+    let q = p.outcome;
+    match q {
+        Outcome::Refused(n) => {
+            return store::refuse(s, n);
+        }
+        Outcome::Done => {}
+    }
+    let merged = survive(s, e, p);
+    if !merged.fits {
+        return store::refuse(s, Refusal::COLLISION);
+    }
+    let files = merged.files;
+    accepted(s, e, p, files)
 }

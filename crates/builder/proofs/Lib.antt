@@ -1,2 +1,1 @@
-pub mod Staying
 pub mod Turning

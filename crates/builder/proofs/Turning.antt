@@ -10,8 +10,8 @@ use Rattle.model.specs.File.{inOrder}
 use Rattle.records.specs.Record.{fileOf}
 use Rattle.records.specs.RecordLaws.{past}
 use Rattle.records.specs.declared.FileRecord.{FileRecord}
+use Rattle.arrangement.specs.Arrangement.{recordBefore}
 use Rattle.builder.specs.declared.Seen.{Seen}
-use Rattle.builder.specs.Builder.{recordBefore}
 use Rattle.builder.specs.Neighbours.{seenAfter}
 use Rattle.builder.specs.NeighbourLaws.{Sees, rest, sees-new, sees-old, rest-new, rest-old, next-apart}
 use Rattle.builder.specs.MergeLaws.{takes-second, takes-first}

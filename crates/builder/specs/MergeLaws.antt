@@ -6,11 +6,11 @@ use mathlib.Core.List.{List, [], _∷_, _++_, map, map-append, List·Memᴰ as I
 use native.Mathlib.Omega.{arith}
 use borrow.Author.Tests.{ltb-true, ltb-false}
 use lib.Dec.{eqb, ltb}
-use lib.ListN.{length, getD, drop, length-append}
+use lib.ListN.{length, getD, drop, length-append, drop-of-length-le}
 use lib.Seq.{slice}
 use Rattle.lemmas.specs.Lists.{push, keep, chain, join, sort, upFrom}
 use Rattle.lemmas.specs.ListLaws.{and-left, and-right, sub-keep, sub-in}
-use Rattle.lemmas.specs.Slices.{run-cons, run-end, parts, parts-turn, parts-over}
+use Rattle.lemmas.specs.Slices.{run-cons, run-end, rest-cons, parts, parts-turn, parts-over}
 use Rattle.lemmas.specs.Maps.{chain-map, sort-map, keep-map, keep-same, sort-sorted}
 use Rattle.lemmas.specs.Merge.{merge, merge-first, merge-second, merge-nil, merge-length, sort-append}
 use Rattle.model.specs.Key.{before}
@@ -20,8 +20,10 @@ use Rattle.model.specs.Formed.{levels-sorted}
 use Rattle.model.specs.PickedLaws.{sub-ordered}
 use Rattle.records.specs.declared.FileRecord.{FileRecord}
 use Rattle.records.specs.Record.{fileOf}
-use Rattle.builder.specs.Builder.{stayersBy, stayersFrom, recordBefore, atLevel, sortedLevels, merges}
-use Rattle.builder.specs.ArrangeLaws.{record-order}
+use Rattle.stayers.specs.Stayers.{stayersBy, stayersFrom}
+use Rattle.arrangement.specs.Arrangement.{recordBefore, atLevel, sortedLevels}
+use Rattle.arrangement.specs.ArrangeLaws.{record-order}
+use Rattle.builder.specs.Builder.{merges, sums}
 
 -- ---- the runs of l from i to e and of r from j to f, merged: the next item
 module _ {A : Type 0} (lt : A → A → Bool) (l r : List A) (i e j f : ℕ) (d : A) where
@@ -56,13 +58,6 @@ module _ {A : Type 0} (lt : A → A → Bool) (l r : List A) (i e j f : ℕ) (d 
 
 -- ---- levels merged level by level
 
--- as many levels as the first list has
-pub merges-levels : (as′ bs : List (List FileRecord)) → length (merges as′ bs) ≡ length as′
-unfolding merges
-merges-levels [] bs = refl
-merges-levels (a ∷ as′) [] = ap suc (merges-levels as′ [])
-merges-levels (a ∷ as′) (b ∷ bs) = ap suc (merges-levels as′ bs)
-
 -- as many records as both have
 pub merges-length : (as′ bs : List (List FileRecord)) → length as′ ≡ length bs → length (join (merges as′ bs)) ≡ length (join as′) + length (join bs)
 unfolding merges join
@@ -71,6 +66,31 @@ merges-length [] (b ∷ bs) h = absurd (omega arith)
 merges-length (a ∷ as′) [] h = absurd (omega arith)
 merges-length (a ∷ as′) (b ∷ bs) h =
     omega (arith, merges-length as′ bs (omega arith), merge-length recordBefore a b, length-append (merge recordBefore a b) (join (merges as′ bs)), length-append a (join as′), length-append b (join bs))
+
+-- each level has as many as both have there
+pub merges-sums : (as′ bs : List (List FileRecord)) → map length (merges as′ bs) ≡ sums (map length as′) (map length bs)
+unfolding merges sums
+merges-sums [] bs = refl
+merges-sums (a ∷ as′) [] = ap (λ (z : List ℕ). length a ∷ z) (merges-sums as′ [])
+merges-sums (a ∷ as′) (b ∷ bs) = cc (merge-length recordBefore a b, merges-sums as′ bs)
+
+-- one sum for each level
+pub sums-length : (ms ns : List ℕ) → length (sums ms ns) ≡ length ms
+unfolding sums
+sums-length [] ns = refl
+sums-length (m ∷ ms) [] = ap suc (sums-length ms [])
+sums-length (m ∷ ms) (n ∷ ns) = ap suc (sums-length ms ns)
+
+-- the levels from one on of two lists of counts
+module _ (ms ns : List ℕ) (level : ℕ) where
+  pub sums-turn : level < length ms → level < length ns → sums (drop level ms) (drop level ns) ≡ (getD ms level 0 + getD ns level 0) ∷ sums (drop (level + 1) ms) (drop (level + 1) ns)
+  unfolding sums
+  sums-turn h g = rw (rest-cons ms level 0 h, rest-cons ns level 0 g)
+
+  -- no level is left
+  pub sums-over : length ms ≤ level → sums (drop level ms) (drop level ns) ≡ []
+  unfolding sums
+  sums-over h = rw (drop-of-length-le ms h)
 
 -- the levels from one on of two arrays
 module _ (files news : List FileRecord) (counts counts′ : List ℕ) (level i j : ℕ) where

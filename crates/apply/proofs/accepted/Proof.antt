@@ -1,12 +1,33 @@
 -- `apply::accepted` meets its contract. Assumes nothing.
-use mathlib.Core.Path.{refl}
+use borrow.Author.Needs.{needs}
+use Rattle.answers.specs.declared.Outcome.the-variants.{Done}
 use Rattle.apply.specs.Apply.{acceptedBy}
 use Rattle.apply.proofs.accepted.Statement.{statement}
 use Rattle.apply.proofs.accepted.Tie as tie
 
+together-requires : tie.Need-together-requires
+together-requires c κs = search needs
+
+point-requires : tie.Need-point-requires
+point-requires c κs = search needs
+
+with-log-requires : tie.Need-with-log-requires
+with-log-requires c κs = search needs
+
 returns : tie.Need-returns
 unfolding acceptedBy
-returns c = refl
+returns c =
+    let p = c .before .before in
+    let t = p .before .before .before in
+    λ i. record {
+      store = record {
+        files = t .before .before .before .args .files;
+        counts = t .together .ensures i;
+        pointers = p .point .ensures i;
+        counters = c .with-log .ensures i;
+      };
+      outcome = Done;
+    }
 
 pub accepted-spec : {M : Type 1} → statement M
-accepted-spec = tie.close (tie.spec returns)
+accepted-spec = tie.close (tie.spec together-requires point-requires with-log-requires returns)

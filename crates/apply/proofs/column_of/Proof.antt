@@ -9,16 +9,16 @@ use lib.Seq.{slice}
 use Rattle.lemmas.specs.Slices.{put, length-of-map}
 use Rattle.lemmas.specs.Loops.{view-laid, view-all-laid}
 use Rattle.records.specs.RecordLaws.{past}
-use Rattle.builder.specs.Builder.{recordNumber}
+use Rattle.stayers.specs.Stayers.{recordNumber}
 use Rattle.apply.proofs.column_of.Statement.{statement}
 use Rattle.apply.proofs.column_of.Tie as tie
 
 abbrev Inv-loop : tie.InvT-loop
-Inv-loop size s column₀ i₀ column i = (i ≤ size) × (length column ≡ 256)
-    × (put column i (map recordNumber (slice i size (s .files))) ≡ put (replicate 256 0) 0 (map recordNumber (take size (s .files))))
+Inv-loop size files column₀ i₀ column i = (i ≤ size) × (length column ≡ 256)
+    × (put column i (map recordNumber (slice i size files)) ≡ put (replicate 256 0) 0 (map recordNumber (take size files)))
 
 abbrev μ-loop : tie.MeasureT-loop
-μ-loop size s column₀ i₀ column i = size - i
+μ-loop size files column₀ i₀ column i = size - i
 
 loop-holds : tie.Need-loop-holds Inv-loop μ-loop
 loop-holds c = (omega arith, refl, refl)
@@ -26,8 +26,8 @@ loop-holds c = (omega arith, refl, refl)
 mul-f : tie.Need-mul-f Inv-loop μ-loop
 mul-f c = omega arith
 
-element-copy-out-f : tie.Need-element-copy-out-f Inv-loop μ-loop
-element-copy-out-f c = omega arith
+array-copy-out-f : tie.Need-array-copy-out-f Inv-loop μ-loop
+array-copy-out-f c = omega arith
 
 mul-column : tie.Need-mul-column Inv-loop μ-loop
 mul-column c = omega arith
@@ -46,17 +46,17 @@ loop-again c =
     let l = c .before .before .before in
     let a = l .before .args in
     let i = l .loop .i in
-    let q : length (a .t1 .files) ≡ 256 = search (needs, length-of-map) in (
+    let q : length (a .t1) ≡ 256 = search (needs, length-of-map) in (
       omega arith,
-      length-set (l .loop .column) i (recordNumber (getD (a .t1 .files) i past)) ∙ l .loop .inv .1,
-      view-laid recordNumber i (a .size) (a .t1 .files) (l .loop .column) past (omega arith) (omega arith) (omega arith) ∙ l .loop .inv .2,
+      length-set (l .loop .column) i (recordNumber (getD (a .t1) i past)) ∙ l .loop .inv .1,
+      view-laid recordNumber i (a .size) (a .t1) (l .loop .column) past (omega arith) (omega arith) (omega arith) ∙ l .loop .inv .2,
     )
 
 returns : tie.Need-returns Inv-loop μ-loop
 returns c =
     let l = c .before in
     let a = l .before .args in
-    sym (view-all-laid recordNumber (l .loop .i) (a .size) (a .t1 .files) (l .loop .column) (omega arith) (omega arith)) ∙ l .loop .inv .2
+    sym (view-all-laid recordNumber (l .loop .i) (a .size) (a .t1) (l .loop .column) (omega arith) (omega arith)) ∙ l .loop .inv .2
 
 pub column-of-spec : {M : Type 1} → statement M
 column-of-spec =
@@ -66,7 +66,7 @@ column-of-spec =
     μ-loop
     loop-holds
     mul-f
-    element-copy-out-f
+    array-copy-out-f
     mul-column
     array-write-column
     add-i

@@ -4,7 +4,7 @@ use mathlib.Core.Path.{_≡_, refl, sym, ap, _∙_}
 use mathlib.Core.List.{List, map}
 use native.Mathlib.Omega.{arith}
 use borrow.Author.Needs.{needs}
-use lib.ListN.{length, getD, take, replicate, length-set}
+use lib.ListN.{length, getD, take, length-set}
 use lib.Seq.{slice}
 use Rattle.lemmas.specs.Slices.{put, length-of-map}
 use Rattle.lemmas.specs.Loops.{view-laid, view-all-laid}
@@ -12,29 +12,29 @@ use Rattle.model.specs.File.{full}
 use Rattle.keys.specs.declared.Key.{Key}
 use Rattle.edits.specs.EditLaws.{pastAddition}
 use Rattle.edits.specs.declared.Addition.{Addition}
-use Rattle.apply.specs.Apply.{noKeys, levelsIn, numbersIn, newColumns}
+use Rattle.apply.specs.Apply.{noKeys, levelsIn, numbersIn, keysIn}
 use Rattle.apply.proofs.new_columns.Statement.{statement}
 use Rattle.apply.proofs.new_columns.Tie as tie
 
 abbrev Inv-loop : tie.InvT-loop
-Inv-loop count additions levels₀ numbers₀ keys₀ i₀ levels numbers keys i =
+Inv-loop count levels₀ numbers₀ additions keys₀ i₀ levels numbers keys i =
     let low : Addition → Key = λ a. a .smallest in
     let level : Addition → ℕ = λ a. a .level in
     let number : Addition → ℕ = λ a. a .number .0 in
-    (i ≤ count) × (length keys ≡ 64) × (length levels ≡ 64) × (length numbers ≡ 64)
+    (i ≤ count) × (length keys ≡ 64) × (length levels ≡ length levels₀) × (length numbers ≡ length numbers₀)
     × (put keys i (map low (slice i count additions)) ≡ put (noKeys 64) 0 (map low (take count additions)))
-    × (put levels i (map level (slice i count additions)) ≡ put (replicate 64 0) 0 (map level (take count additions)))
-    × (put numbers i (map number (slice i count additions)) ≡ put (replicate 64 0) 0 (map number (take count additions)))
+    × (put levels i (map level (slice i count additions)) ≡ put levels₀ 0 (map level (take count additions)))
+    × (put numbers i (map number (slice i count additions)) ≡ put numbers₀ 0 (map number (take count additions)))
 
 abbrev μ-loop : tie.MeasureT-loop
-μ-loop count additions levels₀ numbers₀ keys₀ i₀ levels numbers keys i = count - i
+μ-loop count levels₀ numbers₀ additions keys₀ i₀ levels numbers keys i = count - i
 
 no-keys-requires : tie.Need-no-keys-requires Inv-loop μ-loop
 no-keys-requires c κs = search needs
 
 loop-holds : tie.Need-loop-holds Inv-loop μ-loop
 loop-holds c =
-    let a = c .before .args in
+    let a = c .before .before .before .args in
     let low : Addition → Key = λ x. x .smallest in (
       omega arith,
       search (needs, length-of-map),
@@ -46,39 +46,39 @@ loop-holds c =
     )
 
 mul-a : tie.Need-mul-a Inv-loop μ-loop
-mul-a c = omega arith
+mul-a c = search needs
 
 array-copy-out-a : tie.Need-array-copy-out-a Inv-loop μ-loop
-array-copy-out-a c = omega arith
+array-copy-out-a c = search needs
 
 mul-levels : tie.Need-mul-levels Inv-loop μ-loop
-mul-levels c = omega arith
+mul-levels c = search needs
 
-array-write-levels : tie.Need-array-write-levels Inv-loop μ-loop
-array-write-levels c = omega arith
+slice-write-levels : tie.Need-slice-write-levels Inv-loop μ-loop
+slice-write-levels c = search needs
 
 mul-numbers : tie.Need-mul-numbers Inv-loop μ-loop
-mul-numbers c = omega arith
+mul-numbers c = search needs
 
-array-write-numbers : tie.Need-array-write-numbers Inv-loop μ-loop
-array-write-numbers c = omega arith
+slice-write-numbers : tie.Need-slice-write-numbers Inv-loop μ-loop
+slice-write-numbers c = search needs
 
 mul-keys : tie.Need-mul-keys Inv-loop μ-loop
-mul-keys c = omega arith
+mul-keys c = search needs
 
 array-set-from-keys : tie.Need-array-set-from-keys Inv-loop μ-loop
-array-set-from-keys c = omega arith
+array-set-from-keys c = search needs
 
 add-i : tie.Need-add-i Inv-loop μ-loop
-add-i c = omega arith
+add-i c = search needs
 
 loop-less : tie.Need-loop-less Inv-loop μ-loop
-loop-less c = omega arith
+loop-less c = search needs
 
 loop-again : tie.Need-loop-again Inv-loop μ-loop
 loop-again c =
     let l = c .before .before .before .before in
-    let a = l .before .before .args in
+    let a = l .before .before .before .before .args in
     let i = l .loop .i in
     let low : Addition → Key = λ x. x .smallest in
     let level : Addition → ℕ = λ x. x .level in
@@ -94,16 +94,22 @@ loop-again c =
       view-laid number i (a .count) (a .t1) (l .loop .numbers) pastAddition (omega arith) (omega arith) (omega arith) ∙ l .loop .inv .6,
     )
 
+same-length : tie.Need-same-length Inv-loop μ-loop
+same-length c = search needs
+
+same-length-2 : tie.Need-same-length-2 Inv-loop μ-loop
+same-length-2 c = search needs
+
 returns : tie.Need-returns Inv-loop μ-loop
-unfolding newColumns levelsIn numbersIn full
+unfolding keysIn levelsIn numbersIn full
 returns c =
     let l = c .before in
-    let a = l .before .before .args in
-    let i = l .loop .i in
-    let keys = sym (view-all-laid (λ (x : Addition). x .smallest) i (a .count) (a .t1) (l .loop .keys) (omega arith) (omega arith)) ∙ l .loop .inv .4 in
-    let levels = sym (view-all-laid (λ (x : Addition). x .level) i (a .count) (a .t1) (l .loop .levels) (omega arith) (omega arith)) ∙ l .loop .inv .5 in
-    let numbers = sym (view-all-laid (λ (x : Addition). x .number .0) i (a .count) (a .t1) (l .loop .numbers) (omega arith) (omega arith)) ∙ l .loop .inv .6 in
-    λ j. record { levels = levels j; numbers = numbers j; keys = keys j }
+    let a = l .before .before .before .before .args in
+    let i = l .loop .i in (
+      sym (view-all-laid (λ (x : Addition). x .smallest) i (a .count) (a .t1) (l .loop .keys) (omega arith) (omega arith)) ∙ l .loop .inv .4,
+      sym (view-all-laid (λ (x : Addition). x .level) i (a .count) (a .t1) (l .loop .levels) (omega arith) (omega arith)) ∙ l .loop .inv .5,
+      sym (view-all-laid (λ (x : Addition). x .number .0) i (a .count) (a .t1) (l .loop .numbers) (omega arith) (omega arith)) ∙ l .loop .inv .6,
+    )
 
 pub new-columns-spec : {M : Type 1} → statement M
 new-columns-spec =
@@ -116,12 +122,14 @@ new-columns-spec =
     mul-a
     array-copy-out-a
     mul-levels
-    array-write-levels
+    slice-write-levels
     mul-numbers
-    array-write-numbers
+    slice-write-numbers
     mul-keys
     array-set-from-keys
     add-i
     loop-less
     loop-again
+    same-length
+    same-length-2
     returns)

@@ -17,14 +17,12 @@ use Rattle.keys.specs.declared.Key.{Key}
 use Rattle.edits.specs.Edit.{passed}
 use Rattle.edits.specs.declared.Deletion.{Deletion}
 use Rattle.edits.specs.declared.Addition.{Addition}
-use Rattle.builder.specs.Builder.{staysBy, stayersBy, numberAt, placesOf, isBelow, keptOf, keyBefore, sortedLevels, areLevels, arrangedOf}
-use Rattle.builder.specs.declared.Kept.{Kept}
-use Rattle.builder.specs.PlaceLaws.{below-of}
-use Rattle.apply.specs.Apply.{newColumns, levelsIn, numbersIn, stayPlaces, newPlaces, crowding, planOf}
-use Rattle.apply.specs.ColumnLaws.{gone-levels, gone-numbers, new-levels, new-numbers}
+use Rattle.stayers.specs.Stayers.{staysBy, stayersBy, numberAt, placesOf, isBelow, keptOf}
+use Rattle.stayers.specs.declared.Kept.{Kept}
+use Rattle.stayers.specs.PlaceLaws.{below-of}
+use Rattle.arrangement.specs.Arrangement.{keyBefore, sortedLevels, areLevels, arrangedOf}
+use Rattle.apply.specs.Apply.{levelsGone, numbersGone, levelsIn, numbersIn, keysIn, stayPlaces, newPlaces, crowding, planOf}
 use Rattle.apply.specs.PlanLaws.{stay-few, stay-below}
-use Rattle.apply.specs.declared.DeletionColumns.{DeletionColumns}
-use Rattle.apply.specs.declared.NewColumns.{NewColumns}
 use Rattle.apply.proofs.planned.Statement.{statement}
 use Rattle.apply.proofs.planned.Tie as tie
 
@@ -52,41 +50,77 @@ new-length s =
 abbrev stay : tie.Start → List (List ℕ)
 stay s = stayPlaces (s .args .column .now) (s .args .counts) (gone s) (new s)
 
--- the columns of the additions
-abbrev made : tie.After-new-keys → NewColumns
-made c = c .before .before .before .new-columns .result
+-- where the columns have been made: those of the deletions
+abbrev gone-made : tie.After-new-numbers2 → tie.After-deletion-columns
+gone-made c = c .before .before .before .before .before .before .before
 
--- the start, from where they stand
-abbrev start : tie.After-new-keys → tie.Start
-start c = c .before .before .before .before .before .before .before .before
+-- those of the additions
+abbrev new-made : tie.After-new-numbers2 → tie.After-new-columns
+new-made c = c .before .before
+
+-- the start, from there
+abbrev start : tie.After-new-numbers2 → tie.Start
+start c = gone-made c .before .before .before .before
+
+-- the levels of the deletions, zeros past them
+abbrev gone-levels : tie.After-new-numbers2 → List ℕ
+gone-levels c = gone-made c .deletion-columns .last .1 .1 .0
+
+-- their numbers
+abbrev gone-numbers : tie.After-new-numbers2 → List ℕ
+gone-numbers c = gone-made c .deletion-columns .last .1 .1 .1 .0
+
+-- the levels of the additions
+abbrev new-levels : tie.After-new-numbers2 → List ℕ
+new-levels c = new-made c .new-columns .last .1 .1 .0
+
+-- their numbers
+abbrev new-numbers : tie.After-new-numbers2 → List ℕ
+new-numbers c = new-made c .new-columns .last .1 .1 .1 .0
 
 -- there are so many deletions
-gone-room : (c : tie.After-new-keys) → (start c .args .m ≤ length (c .before .before .before .before .before .before .deletion-columns .result .levels)) × (start c .args .m ≤ length (c .before .before .before .before .before .before .deletion-columns .result .numbers))
+gone-room : (c : tie.After-new-numbers2) → (start c .args .m ≤ length (gone-levels c)) × (start c .args .m ≤ length (gone-numbers c))
 gone-room c =
-    let p : length (c .before .before .before .before .before .before .deletion-columns .result .levels) ≡ 256 = search needs in
-    let q : length (c .before .before .before .before .before .before .deletion-columns .result .numbers) ≡ 256 = search needs in
+    let p : length (gone-levels c) ≡ 256 = search needs in
+    let q : length (gone-numbers c) ≡ 256 = search needs in
     let h = start c .pre .3 in
     (omega arith, omega arith)
 
 -- and so many additions
-new-room : (c : tie.After-new-keys) → (start c .args .k ≤ length (made c .levels)) × (start c .args .k ≤ length (made c .numbers))
+new-room : (c : tie.After-new-numbers2) → (start c .args .k ≤ length (new-levels c)) × (start c .args .k ≤ length (new-numbers c))
 new-room c =
-    let p : length (made c .levels) ≡ 64 = search needs in
-    let q : length (made c .numbers) ≡ 64 = search needs in
+    let p : length (new-levels c) ≡ 64 = search needs in
+    let q : length (new-numbers c) ≡ 64 = search needs in
     let h = start c .pre .4 in
     (omega arith, omega arith)
 
--- the levels of the additions, as they are lent
-lent-levels : (c : tie.After-new-keys) → take (start c .args .k) (made c .levels) ≡ levelsIn (new (start c))
-lent-levels c =
+-- the levels of the deletions, as they are lent
+lent-gone-levels : (c : tie.After-new-numbers2) → take (start c .args .m) (gone-levels c) ≡ levelsGone (gone (start c))
+unfolding levelsGone
+lent-gone-levels c =
     let s = start c in
-    ap (λ (x : NewColumns). take (s .args .k) (x .levels)) (c .before .before .before .new-columns .ensures) ∙ new-levels (new s) (s .args .k) (new-length s)
+    front-laid (replicate 256 0) (gone-levels c) (levelsGone (gone s)) (s .args .m) (length-map (gone s) (λ (d : Deletion). d .level) ∙ sym (gone-length s)) (gone-made c .deletion-columns .ensures .0)
 
 -- their numbers
-lent-numbers : (c : tie.After-new-keys) → take (start c .args .k) (made c .numbers) ≡ numbersIn (new (start c))
+lent-gone-numbers : (c : tie.After-new-numbers2) → take (start c .args .m) (gone-numbers c) ≡ numbersGone (gone (start c))
+unfolding numbersGone
+lent-gone-numbers c =
+    let s = start c in
+    front-laid (replicate 256 0) (gone-numbers c) (numbersGone (gone s)) (s .args .m) (length-map (gone s) (λ (d : Deletion). d .number .0) ∙ sym (gone-length s)) (gone-made c .deletion-columns .ensures .1)
+
+-- the levels of the additions, as they are lent
+lent-levels : (c : tie.After-new-numbers2) → take (start c .args .k) (new-levels c) ≡ levelsIn (new (start c))
+unfolding levelsIn
+lent-levels c =
+    let s = start c in
+    front-laid (replicate 64 0) (new-levels c) (levelsIn (new s)) (s .args .k) (length-map (new s) (λ (a : Addition). a .level) ∙ sym (new-length s)) (new-made c .new-columns .ensures .1)
+
+-- their numbers
+lent-numbers : (c : tie.After-new-numbers2) → take (start c .args .k) (new-numbers c) ≡ numbersIn (new (start c))
+unfolding numbersIn
 lent-numbers c =
     let s = start c in
-    ap (λ (x : NewColumns). take (s .args .k) (x .numbers)) (c .before .before .before .new-columns .ensures) ∙ new-numbers (new s) (s .args .k) (new-length s)
+    front-laid (replicate 64 0) (new-numbers c) (numbersIn (new s)) (s .args .k) (length-map (new s) (λ (a : Addition). a .number .0) ∙ sym (new-length s)) (new-made c .new-columns .ensures .2)
 
 -- what stays
 kept : (c : tie.After-stay) → c .stay .result ≡ keptOf (stay (start (c .before .before .before .before .before)))
@@ -96,11 +130,8 @@ kept c =
     let s = start n in
     let m = s .args .m in
     let k = s .args .k in
-    let d = n .before .before .before .before .before .before in
-    let levels = ap (λ (x : DeletionColumns). take m (x .levels)) (d .deletion-columns .ensures) ∙ gone-levels (gone s) m (gone-length s) in
-    let numbers = ap (λ (x : DeletionColumns). take m (x .numbers)) (d .deletion-columns .ensures) ∙ gone-numbers (gone s) m (gone-length s) in
-    let test : staysBy (take m (d .deletion-columns .result .levels)) (take m (d .deletion-columns .result .numbers)) (take k (made n .levels)) (take k (made n .numbers))
-    ≡ staysBy (map (λ (x : Deletion). x .level) (gone s)) (map (λ (x : Deletion). x .number .0) (gone s)) (levelsIn (new s)) (numbersIn (new s)) = rw (levels, numbers, lent-levels n, lent-numbers n) in
+    let test : staysBy (take m (gone-levels n)) (take m (gone-numbers n)) (take k (new-levels n)) (take k (new-numbers n))
+    ≡ staysBy (levelsGone (gone s)) (numbersGone (gone s)) (levelsIn (new s)) (numbersIn (new s)) = rw (lent-gone-levels n, lent-gone-numbers n, lent-levels n, lent-numbers n) in
     c .stay .ensures ∙ ap (λ (t : ℕ → ℕ → Bool). keptOf (stayersBy (numberAt (s .args .column .now)) t 0 (placesOf (s .args .counts)))) test
 
 -- how many stay
@@ -133,8 +164,20 @@ kept-numbers c =
     front-laid (replicate 256 0) (c .numbers-at .result) (map number (join (stay s))) (k .stay .result .total) (length-map (join (stay s)) number ∙ sym (total k))
     (c .numbers-at .ensures ∙ ap (λ (z : List ℕ). put (replicate 256 0) 0 (map number z)) (lent-places k))
 
+slice-aggregate-deletion-columns : tie.Need-slice-aggregate-deletion-columns
+slice-aggregate-deletion-columns c = search needs
+
+slice-aggregate-deletion-columns-2 : tie.Need-slice-aggregate-deletion-columns-2
+slice-aggregate-deletion-columns-2 c = search needs
+
 deletion-columns-requires : tie.Need-deletion-columns-requires
 deletion-columns-requires c κs = search needs
+
+slice-aggregate-new-columns : tie.Need-slice-aggregate-new-columns
+slice-aggregate-new-columns c = search needs
+
+slice-aggregate-new-columns-2 : tie.Need-slice-aggregate-new-columns-2
+slice-aggregate-new-columns-2 c = search needs
 
 new-columns-requires : tie.Need-new-columns-requires
 new-columns-requires c κs = search needs
@@ -143,25 +186,25 @@ array-share-prefix-gone-levels : tie.Need-array-share-prefix-gone-levels
 array-share-prefix-gone-levels c = gone-room c .0
 
 slice-aggregate-stay : tie.Need-slice-aggregate-stay
-slice-aggregate-stay c = sym (length-take-le (start (c .before) .args .m) (c .before .before .before .before .before .before .before .deletion-columns .result .levels) (gone-room (c .before) .0))
+slice-aggregate-stay c = sym (length-take-le (start (c .before) .args .m) (gone-levels (c .before)) (gone-room (c .before) .0))
 
 array-share-prefix-gone-numbers : tie.Need-array-share-prefix-gone-numbers
 array-share-prefix-gone-numbers c = gone-room (c .before) .1
 
 slice-aggregate-stay-2 : tie.Need-slice-aggregate-stay-2
-slice-aggregate-stay-2 c = sym (length-take-le (start (c .before .before) .args .m) (c .before .before .before .before .before .before .before .before .deletion-columns .result .numbers) (gone-room (c .before .before) .1))
+slice-aggregate-stay-2 c = sym (length-take-le (start (c .before .before) .args .m) (gone-numbers (c .before .before)) (gone-room (c .before .before) .1))
 
 array-share-prefix-new-levels : tie.Need-array-share-prefix-new-levels
 array-share-prefix-new-levels c = new-room (c .before .before) .0
 
 slice-aggregate-stay-3 : tie.Need-slice-aggregate-stay-3
-slice-aggregate-stay-3 c = sym (length-take-le (start (c .before .before .before) .args .k) (made (c .before .before .before) .levels) (new-room (c .before .before .before) .0))
+slice-aggregate-stay-3 c = sym (length-take-le (start (c .before .before .before) .args .k) (new-levels (c .before .before .before)) (new-room (c .before .before .before) .0))
 
 array-share-prefix-new-numbers : tie.Need-array-share-prefix-new-numbers
 array-share-prefix-new-numbers c = new-room (c .before .before .before) .1
 
 slice-aggregate-stay-4 : tie.Need-slice-aggregate-stay-4
-slice-aggregate-stay-4 c = sym (length-take-le (start (c .before .before .before .before) .args .k) (made (c .before .before .before .before) .numbers) (new-room (c .before .before .before .before) .1))
+slice-aggregate-stay-4 c = sym (length-take-le (start (c .before .before .before .before) .args .k) (new-numbers (c .before .before .before .before)) (new-room (c .before .before .before .before) .1))
 
 stay-requires : tie.Need-stay-requires
 stay-requires c κs = search needs
@@ -200,7 +243,7 @@ array-share-prefix-new-numbers-2 : tie.Need-array-share-prefix-new-numbers-2
 array-share-prefix-new-numbers-2 c = new-room (c .before .before .before .before .before .before .before .before .before .before) .1
 
 slice-aggregate-has-twice-2 : tie.Need-slice-aggregate-has-twice-2
-slice-aggregate-has-twice-2 c = sym (length-take-le (start (c .before .before .before .before .before .before .before .before .before .before .before) .args .k) (made (c .before .before .before .before .before .before .before .before .before .before .before) .numbers) (new-room (c .before .before .before .before .before .before .before .before .before .before .before) .1))
+slice-aggregate-has-twice-2 c = sym (length-take-le (start (c .before .before .before .before .before .before .before .before .before .before .before) .args .k) (new-numbers (c .before .before .before .before .before .before .before .before .before .before .before)) (new-room (c .before .before .before .before .before .before .before .before .before .before .before) .1))
 
 has-twice-requires : tie.Need-has-twice-requires
 has-twice-requires c κs = ap distinct (kept-numbers (c .before .before)) ∙ start (c .before .before .before .before .before .before .before .before .before .before .before) .pre .2
@@ -211,7 +254,7 @@ twice c =
     let n = c .before .before .before .before .before .before .before .before .before .before .before .before in
     let s = start n in
     c .has-twice .ensures
-    ∙ ap (λ (z : List ℕ). not (distinct (z ++ take (s .args .k) (made n .numbers)))) (kept-numbers (c .before .before .before))
+    ∙ ap (λ (z : List ℕ). not (distinct (z ++ take (s .args .k) (new-numbers n)))) (kept-numbers (c .before .before .before))
     ∙ ap (λ (z : List ℕ). not (distinct (map (numberAt (s .args .column .now)) (join (stay s)) ++ z))) (lent-numbers n)
 
 add-crowded : tie.Need-add-crowded
@@ -239,14 +282,14 @@ array-share-prefix-new-levels-2 : tie.Need-array-share-prefix-new-levels-2
 array-share-prefix-new-levels-2 c = new-room (c .before .before .before .before .before .before .before .before .before .before .before .before .before) .0
 
 slice-aggregate-arrange : tie.Need-slice-aggregate-arrange
-slice-aggregate-arrange c = sym (length-take-le (start (c .before .before .before .before .before .before .before .before .before .before .before .before .before .before) .args .k) (made (c .before .before .before .before .before .before .before .before .before .before .before .before .before .before) .levels) (new-room (c .before .before .before .before .before .before .before .before .before .before .before .before .before .before) .0))
+slice-aggregate-arrange c = sym (length-take-le (start (c .before .before .before .before .before .before .before .before .before .before .before .before .before .before) .args .k) (new-levels (c .before .before .before .before .before .before .before .before .before .before .before .before .before .before)) (new-room (c .before .before .before .before .before .before .before .before .before .before .before .before .before .before) .0))
 
 arrange-requires : tie.Need-arrange-requires
 arrange-requires c κs =
     let n = c .before .before .before .before .before .before .before .before .before .before .before .before .before .before in
     let s = start n in
     let h = s .pre .4 in
-    (omega (arith, length-take-le (s .args .k) (made n .levels) (new-room n .0)), ap areLevels (lent-levels n) ∙ s .pre .5)
+    (omega (arith, length-take-le (s .args .k) (new-levels n) (new-room n .0)), ap areLevels (lent-levels n) ∙ s .pre .5)
 
 -- the additions in order
 arranged : (c : tie.After-arrange) → c .arrange .result ≡ arrangedOf (newPlaces (new (start (c .before .before .before .before .before .before .before .before .before .before .before .before .before .before .before))))
@@ -255,11 +298,11 @@ arranged c =
     let n = c .before .before .before .before .before .before .before .before .before .before .before .before .before .before .before in
     let s = start n in
     let levels = lent-levels n in
-    let keys = ap (λ (x : NewColumns). x .keys) (n .before .before .before .new-columns .ensures) in
+    let keys = new-made n .new-columns .ensures .0 in
     c .arrange .ensures
-    ∙ ap (λ (z : List ℕ). arrangedOf (sortedLevels (keyBefore (made n .keys)) z (upFrom 0 (length z)))) levels
+    ∙ ap (λ (z : List ℕ). arrangedOf (sortedLevels (keyBefore (new-made n .new-columns .result)) z (upFrom 0 (length z)))) levels
     ∙ ap (λ (z : List Key). arrangedOf (sortedLevels (keyBefore z) (levelsIn (new s)) (upFrom 0 (length (levelsIn (new s)))))) keys
-    ∙ ap (λ (j : ℕ). arrangedOf (sortedLevels (keyBefore (newColumns (new s) .keys)) (levelsIn (new s)) (upFrom 0 j))) (length-map (new s) (λ (a : Addition). a .level))
+    ∙ ap (λ (j : ℕ). arrangedOf (sortedLevels (keyBefore (keysIn (new s))) (levelsIn (new s)) (upFrom 0 j))) (length-map (new s) (λ (a : Addition). a .level))
 
 returns : tie.Need-returns
 unfolding planOf
@@ -281,7 +324,11 @@ pub planned-spec : {M : Type 1} → statement M
 planned-spec =
     tie.close
     (tie.spec
+    slice-aggregate-deletion-columns
+    slice-aggregate-deletion-columns-2
     deletion-columns-requires
+    slice-aggregate-new-columns
+    slice-aggregate-new-columns-2
     new-columns-requires
     array-share-prefix-gone-levels
     slice-aggregate-stay

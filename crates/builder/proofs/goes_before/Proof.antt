@@ -2,7 +2,7 @@
 use borrow.Author.Needs.{needs}
 use Rattle.model.specs.File.{bySmallest}
 use Rattle.records.specs.Record.{fileOf}
-use Rattle.builder.specs.Builder.{recordBefore}
+use Rattle.arrangement.specs.Arrangement.{recordBefore}
 use Rattle.builder.proofs.goes_before.Statement.{statement}
 use Rattle.builder.proofs.goes_before.Tie as tie
 

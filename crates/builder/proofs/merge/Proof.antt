@@ -3,32 +3,34 @@
 use Prim.Native.Nat.{ℕ, _+_, _-_, _≤_, _<_}
 use mathlib.Core.Path.{_≡_, refl, sym, ap, _∙_}
 use mathlib.Core.Bool.{Bool, true, false, _&&_}
-use mathlib.Core.List.{List, [], _∷_, map}
+use mathlib.Core.List.{List, map}
 use mathlib.Core.Logic.{⊎-elim}
 use native.Mathlib.Omega.{arith}
 use borrow.Author.Needs.{needs}
 use borrow.Author.Tests.{ltb-true, ltb-false}
-use lib.ListN.{length, getD, drop, length-set, length-map}
+use lib.ListN.{length, getD, drop, length-set}
 use lib.Seq.{slice, length-slice}
 use Rattle.lemmas.specs.Order.{clash}
 use Rattle.lemmas.specs.Lists.{join, sum}
 use Rattle.lemmas.specs.ListLaws.{and-left, and-right, and-true}
-use Rattle.lemmas.specs.Slices.{put, put-cons, put-nil, put-append, put-whole, parts, parts-turn, length-parts, sum-turn}
+use Rattle.lemmas.specs.Slices.{put, put-cons, put-nil, put-append, parts, parts-turn, sum-turn}
 use Rattle.lemmas.specs.Merge as lists
 use Rattle.model.specs.File.{full, inOrder, noCollision, levelwise}
 use Rattle.records.specs.declared.FileRecord.{FileRecord}
 use Rattle.records.specs.Record.{fileOf, vacant}
 use Rattle.records.specs.RecordLaws.{past}
-use Rattle.builder.specs.Builder.{recordBefore, recordsAt, filesOf, merges, mergedOf}
-use Rattle.builder.specs.PlaceLaws.{below-at, records-length, record-at}
-use Rattle.builder.specs.MergeLaws.{takes-none, merges-turn, merges-over, merges-levels}
+use Rattle.stayers.specs.Stayers.{recordsAt}
+use Rattle.stayers.specs.PlaceLaws.{below-at, records-length, record-at}
+use Rattle.arrangement.specs.Arrangement.{recordBefore}
+use Rattle.builder.specs.Builder.{filesOf, merges, mergedOf}
+use Rattle.builder.specs.MergeLaws.{takes-none, merges-turn, merges-over}
 use Rattle.builder.specs.NeighbourLaws.{Sees, rest, fits-begun, sees-begun, rest-begun, rest-ended, levelwise-turn, levelwise-found}
 use Rattle.builder.proofs.Turning.{turn-new, turn-old}
 use Rattle.builder.proofs.merge.Statement.{statement}
 use Rattle.builder.proofs.merge.Tie as tie
 
 abbrev Inv-loop2 : tie.InvT-loop2
-Inv-loop2 files places counts news order new-counts out₀ made seen₀ i₀ j₀ level to new-to out seen i j =
+Inv-loop2 files places counts news order new-counts out₀ seen₀ i₀ j₀ level to new-to out seen i j =
     let old = recordsAt files places in
     let new = recordsAt news order in
     let left = lists.merge recordBefore (slice i to old) (slice j new-to new) in
@@ -40,23 +42,22 @@ Inv-loop2 files places counts news order new-counts out₀ made seen₀ i₀ j�
     × ((seen .fits && rest level seen left) ≡ (seen₀ .fits && noCollision level (map fileOf whole)))
 
 abbrev μ-loop2 : tie.MeasureT-loop2
-μ-loop2 files places counts news order new-counts out₀ made seen₀ i₀ j₀ level to new-to out seen i j = (to + new-to) - (i + j)
+μ-loop2 files places counts news order new-counts out₀ seen₀ i₀ j₀ level to new-to out seen i j = (to + new-to) - (i + j)
 
 abbrev Inv-loop : tie.InvT-loop
-Inv-loop files places counts news order new-counts out₀ made₀ seen₀ i₀ j₀ level₀ out made seen i j level =
+Inv-loop files places counts news order new-counts out₀ seen₀ i₀ j₀ level₀ out seen i j level =
     let old = recordsAt files places in
     let new = recordsAt news order in
     let left = merges (parts (drop i old) (drop level counts)) (parts (drop j new) (drop level new-counts)) in
     let whole = merges (parts old counts) (parts new new-counts) in
     (level ≤ 7) × (i + sum (drop level counts) + (j + sum (drop level new-counts)) ≤ 256) × (j + sum (drop level new-counts) ≤ 64)
-    × (length out ≡ 256) × (length made ≡ 7)
+    × (length out ≡ 256)
     × (put out (i + j) (join left) ≡ put (vacant 256) 0 (join whole))
-    × (put made level (map length left) ≡ map length whole)
     × (levelwise inOrder level (filesOf (parts (drop i old) (drop level counts))) ≡ true)
     × ((seen .fits && levelwise noCollision level (filesOf left)) ≡ levelwise noCollision 0 (filesOf whole))
 
 abbrev μ-loop : tie.MeasureT-loop
-μ-loop files places counts news order new-counts out₀ made₀ seen₀ i₀ j₀ level₀ out made seen i j level = 7 - level
+μ-loop files places counts news order new-counts out₀ seen₀ i₀ j₀ level₀ out seen i j level = 7 - level
 
 -- the start of the function
 abbrev Start : Type 0
@@ -137,15 +138,12 @@ level-begun-requires c κs = search needs
 loop-holds : tie.Need-loop-holds Inv-loop2 μ-loop2 Inv-loop μ-loop
 loop-holds c =
     let s = c .before .before in
-    let whole = merges (parts (olds s) (s .args .t3)) (parts (adds s) (s .args .t6)) in
-    let seven : length (s .args .t3) ≡ 7 = search needs in (
+    let whole = merges (parts (olds s) (s .args .t3)) (parts (adds s) (s .args .t6)) in (
       omega arith,
       omega arith,
       omega arith,
       search needs,
-      refl,
       ap (λ (d : List FileRecord). put d 0 (join whole)) (c .before .blanks .ensures),
-      put-whole (0 ∷ 0 ∷ 0 ∷ 0 ∷ 0 ∷ 0 ∷ 0 ∷ []) (map length whole) (length-map whole length ∙ merges-levels (parts (olds s) (s .args .t3)) (parts (adds s) (s .args .t6)) ∙ length-parts (olds s) (s .args .t3) ∙ seven),
       s .pre .4,
       ap (λ (b : Bool). b && levelwise noCollision 0 (filesOf whole)) (fits-begun (c .level-begun .result) true 0 (c .level-begun .ensures)),
     )
@@ -189,7 +187,7 @@ loop2-holds c =
     let u = sum-turn (s .args .t6) (o .level) (omega arith) in
     let this = slice (o .i) (o .i + n) (olds s) in
     let later = parts (drop (o .i + n) (olds s)) (drop (o .level + 1) (s .args .t3)) in
-    let ordered = sym (levelwise-turn inOrder (o .level) this later) ∙ ap (λ (z : List (List FileRecord)). levelwise inOrder (o .level) (filesOf z)) (sym (parts-turn (olds s) (s .args .t3) (o .level) (o .i) (omega arith))) ∙ o .inv .7 in (
+    let ordered = sym (levelwise-turn inOrder (o .level) this later) ∙ ap (λ (z : List (List FileRecord)). levelwise inOrder (o .level) (filesOf z)) (sym (parts-turn (olds s) (s .args .t3) (o .level) (o .i) (omega arith))) ∙ o .inv .5 in (
       omega arith,
       omega arith,
       omega arith,
@@ -379,27 +377,6 @@ level-done c =
           ∙ ap (λ (f : Bool). f && noCollision (o .level) (map fileOf all)) (fits-begun (b .level-begun2 .result) (o .seen .fits) (o .level) (b .level-begun2 .ensures)),
     )
 
-mul-made : tie.Need-mul-made Inv-loop2 μ-loop2 Inv-loop μ-loop
-mul-made c = omega arith
-
-array-read-made : tie.Need-array-read-made Inv-loop2 μ-loop2 Inv-loop μ-loop
-array-read-made c = omega arith
-
-mul-made-2 : tie.Need-mul-made-2 Inv-loop2 μ-loop2 Inv-loop μ-loop
-mul-made-2 c = omega arith
-
-array-read-made-2 : tie.Need-array-read-made-2 Inv-loop2 μ-loop2 Inv-loop μ-loop
-array-read-made-2 c = omega arith
-
-add-made : tie.Need-add-made Inv-loop2 μ-loop2 Inv-loop μ-loop
-add-made c = omega arith
-
-mul-made-3 : tie.Need-mul-made-3 Inv-loop2 μ-loop2 Inv-loop μ-loop
-mul-made-3 c = omega arith
-
-array-write-made : tie.Need-array-write-made Inv-loop2 μ-loop2 Inv-loop μ-loop
-array-write-made c = omega arith
-
 add-level : tie.Need-add-level Inv-loop2 μ-loop2 Inv-loop μ-loop
 add-level c = omega arith
 
@@ -420,7 +397,7 @@ loop-again c =
     let all = lists.merge recordBefore this (slice (o .j) (o .j + m) (adds s)) in
     let left = merges later (parts (drop (o .j + m) (adds s)) (drop (o .level + 1) (s .args .t6))) in
     let turn = merges-turn (olds s) (adds s) (s .args .t3) (s .args .t6) (o .level) (o .i) (o .j) (omega arith) (omega arith) in
-    let ordered = sym (levelwise-turn inOrder (o .level) this later) ∙ ap (λ (z : List (List FileRecord)). levelwise inOrder (o .level) (filesOf z)) (sym (parts-turn (olds s) (s .args .t3) (o .level) (o .i) (omega arith))) ∙ o .inv .7 in
+    let ordered = sym (levelwise-turn inOrder (o .level) this later) ∙ ap (λ (z : List (List FileRecord)). levelwise inOrder (o .level) (filesOf z)) (sym (parts-turn (olds s) (s .args .t3) (o .level) (o .i) (omega arith))) ∙ o .inv .5 in
     let t = sum-turn (s .args .t3) (o .level) (omega arith) in
     let u = sum-turn (s .args .t6) (o .level) (omega arith) in
     let same : merges (parts (drop (l .i) (olds s)) (drop (o .level + 1) (s .args .t3))) (parts (drop (l .j) (adds s)) (drop (o .level + 1) (s .args .t6))) ≡ left = rw (d .1, d .2) in
@@ -430,17 +407,13 @@ loop-again c =
       omega (arith, d .1, d .2),
       omega (arith, d .2),
       l .inv .5,
-      length-set (o .made) (o .level) (n + m) ∙ o .inv .4,
       rw (same, d .0, to) (put-append (o .out) (o .i + o .j) all (join left) fits)
           ∙ ap (λ (z : List (List FileRecord)). put (o .out) (o .i + o .j) (join z)) (sym turn)
-          ∙ o .inv .5,
-      rw (same, d .3) (put-cons (o .made) (o .level) (length all) (map length left) (omega arith))
-          ∙ ap (λ (z : List (List FileRecord)). put (o .made) (o .level) (map length z)) (sym turn)
-          ∙ o .inv .6,
+          ∙ o .inv .4,
       rw (d .1) (and-right (inOrder (o .level) (map fileOf this)) (levelwise inOrder (o .level + 1) (filesOf later)) ordered),
       rw same (levelwise-found noCollision (o .level) all left (o .seen .fits) (l .seen .fits) (d .4))
           ∙ ap (λ (z : List (List FileRecord)). o .seen .fits && levelwise noCollision (o .level) (filesOf z)) (sym turn)
-          ∙ o .inv .8,
+          ∙ o .inv .6,
     )
 
 returns : tie.Need-returns Inv-loop2 μ-loop2 Inv-loop μ-loop
@@ -449,10 +422,9 @@ returns c =
     let s = c .before .before .before .before in
     let l = c .before .loop in
     let none = merges-over (olds s) (adds s) (s .args .t3) (s .args .t6) (l .level) (l .i) (l .j) (omega arith) in
-    let files = sym (put-nil (l .out) (l .i + l .j)) ∙ ap (λ (z : List (List FileRecord)). put (l .out) (l .i + l .j) (join z)) (sym none) ∙ l .inv .5 in
-    let counts = sym (put-nil (l .made) (l .level)) ∙ ap (λ (z : List (List FileRecord)). put (l .made) (l .level) (map length z)) (sym none) ∙ l .inv .6 in
-    let clear = sym (and-true (l .seen .fits)) ∙ ap (λ (z : List (List FileRecord)). l .seen .fits && levelwise noCollision (l .level) (filesOf z)) (sym none) ∙ l .inv .8 in
-    λ i. record { files = files i; counts = counts i; fits = clear i }
+    let files = sym (put-nil (l .out) (l .i + l .j)) ∙ ap (λ (z : List (List FileRecord)). put (l .out) (l .i + l .j) (join z)) (sym none) ∙ l .inv .4 in
+    let clear = sym (and-true (l .seen .fits)) ∙ ap (λ (z : List (List FileRecord)). l .seen .fits && levelwise noCollision (l .level) (filesOf z)) (sym none) ∙ l .inv .6 in
+    λ i. record { files = files i; fits = clear i }
 
 pub merge-spec : {M : Type 1} → statement M
 merge-spec =
@@ -506,13 +478,6 @@ merge-spec =
     add-i
     loop2-less-2
     loop2-again-2
-    mul-made
-    array-read-made
-    mul-made-2
-    array-read-made-2
-    add-made
-    mul-made-3
-    array-write-made
     add-level
     loop-less
     loop-again

@@ -1,0 +1,3 @@
+pub mod Arrangement
+pub mod Arrange
+pub mod ArrangeLaws

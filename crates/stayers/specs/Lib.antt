@@ -1,0 +1,3 @@
+pub mod Stayers
+pub mod StayLaws
+pub mod PlaceLaws
