@@ -1,57 +1,22 @@
--- Laws of what a pick takes: up to a total, and whether it grows. Assumes nothing.
+-- Laws of what a pick takes: its first inputs, and whether they grow. Assumes nothing.
 use Prim.Native.Nat.{ℕ, zero, suc, _+_, _*_, _^_, _≤_, _<_}
-use mathlib.Core.Path.{_≡_, refl, ap, _∙_}
-use mathlib.Core.Bool.{Bool, true, false, not, _&&_, cond}
+use mathlib.Core.Path.{_≡_, refl}
+use mathlib.Core.Bool.{Bool, true, false, not, _&&_}
 use mathlib.Core.List.{List, [], _∷_, _++_}
 use native.Mathlib.Omega.{arith}
 use native.Mathlib.Numerals.{add-one}
 use lib.Dec.{eqb, ltb, leb}
 use borrow.Author.Tests.{lt-ltb, le-ltb, ltb-true, ltb-false, lt-leb, le-leb, leb-true, eq-eqb, ne-eqb, not-false}
-use lib.ListN.{length, getD, take}
-use lib.Seq.{slice}
+use lib.ListN.{length}
 use Rattle.lemmas.specs.Lists.{isEmpty}
 use Rattle.lemmas.specs.ListLaws.{and-right}
 use Rattle.model.specs.File.{File, State, full, level, total, setPointer}
 use Rattle.model.specs.Pick.{upTo, manualInputs, Cause, grows, grownFirst, grandOf, complete, badMaximum}
 use Rattle.model.specs.Range.{Range, overlapping, highKey, rangeOf}
-use Rattle.records.specs.declared.FileRecord.{FileRecord}
-use Rattle.records.specs.Record.{fileOf}
-use Rattle.records.specs.RecordLaws.{past}
-use Rattle.ranges.specs.Ranges.{fileAt, filesAt}
-use Rattle.ranges.specs.PlacesLaws.{files-turn, files-ended}
-use Rattle.picks.specs.Picks.{takenFrom}
-
--- ---- up to a total
-module _ (m t : ℕ) (f : File) (fs : List File) where
-  -- the file brings the total above m
-  pub up-stops : m < t + f .size → length (upTo m t (f ∷ fs)) ≡ 1
-  unfolding upTo
-  up-stops h = rw (lt-ltb m (t + f .size) h)
-
-  -- it does not
-  pub up-goes-on : t + f .size ≤ m → length (upTo m t (f ∷ fs)) ≡ suc (length (upTo m (t + f .size) fs))
-  unfolding upTo
-  up-goes-on h = rw (le-ltb m (t + f .size) h)
-
--- it is a front part
-pub up-front : (m t : ℕ) (fs : List File) → upTo m t fs ≡ take (length (upTo m t fs)) fs
-unfolding upTo
-up-front m t [] = refl
-up-front m t (f ∷ fs) = ap (λ (l : List File). f ∷ l) (go (ltb m (t + f .size)) (up-front m (t + f .size) fs))
-  where
-    go : (b : Bool) → upTo m (t + f .size) fs ≡ take (length (upTo m (t + f .size) fs)) fs → cond b [] (upTo m (t + f .size) fs) ≡ take (length (cond b [] (upTo m (t + f .size) fs))) fs
-    go true ih = refl
-    go false ih = ih
-
--- no more than there are
-pub up-few : (m t : ℕ) (fs : List File) → length (upTo m t fs) ≤ length fs
-unfolding upTo
-up-few m t [] = omega arith
-up-few m t (f ∷ fs) = go (ltb m (t + f .size)) (up-few m (t + f .size) fs)
-  where
-    go : (b : Bool) → length (upTo m (t + f .size) fs) ≤ length fs → suc (length (cond b [] (upTo m (t + f .size) fs))) ≤ suc (length fs)
-    go true ih = omega arith
-    go false ih = omega arith
+use Rattle.store.specs.declared.Store.{Store}
+use Rattle.store.specs.Store.{stateOf, wellStore}
+use Rattle.ranges.specs.FoundLaws.{all-taken}
+use Rattle.picks.specs.Picks.{takenFrom, limitOf}
 
 -- ---- growth
 -- one part of a test of four fails
@@ -161,49 +126,34 @@ maximum-most m e =
     let b : (leb 1 m && leb m (2 ^ 32)) ≡ true = not-false (leb 1 m && leb m (2 ^ 32)) e in
     leb-true m 4294967296 (and-right (leb 1 m) (leb m (2 ^ 32)) b)
 
--- ---- up to a total, over the files at places
-module _ (m t : ℕ) (files : List FileRecord) (k e : ℕ) (at : List ℕ) where
-  -- the size at the first place
-  abbrev pub sizeAt : ℕ
-  sizeAt = getD files (getD at k 0) past .size
-
-  -- it brings the total above m
-  pub stops-at : k < e → e ≤ length at → m < t + sizeAt → length (upTo m t (filesAt files (slice k e at))) ≡ 1
-  unfolding fileAt fileOf
-  stops-at h g l = ap (λ (fs : List File). length (upTo m t fs)) (files-turn files k e at h g) ∙ up-stops m t (fileAt files (getD at k 0)) (filesAt files (slice (k + 1) e at)) l
-
-  -- it does not
-  pub goes-on-at : k < e → e ≤ length at → t + sizeAt ≤ m → length (upTo m t (filesAt files (slice k e at))) ≡ suc (length (upTo m (t + sizeAt) (filesAt files (slice (k + 1) e at))))
-  unfolding fileAt fileOf
-  goes-on-at h g l = ap (λ (fs : List File). length (upTo m t fs)) (files-turn files k e at h g) ∙ up-goes-on m t (fileAt files (getD at k 0)) (filesAt files (slice (k + 1) e at)) l
-
-  -- none is left
-  pub ended-at : e ≤ k → length (upTo m t (filesAt files (slice k e at))) ≡ 0
-  unfolding upTo
-  ended-at h = rw (files-ended files k e at h)
-
 -- ---- the first inputs
 -- of a size pick at level 0
-pub taken-first : (l : ℕ) (fs : List File) (f : File) → l ≡ 0 → takenFrom l fs f ≡ overlapping 0 fs (rangeOf (f ∷ []))
+pub taken-first : (l : ℕ) (fs one : List File) → l ≡ 0 → takenFrom l fs one ≡ overlapping 0 fs (rangeOf one)
 unfolding takenFrom
-taken-first l fs f e = rw e
+taken-first l fs one e = rw e
 
 -- deeper
-pub taken-deeper : (l : ℕ) (fs : List File) (f : File) → (l ≡ 0 → ⊥) → takenFrom l fs f ≡ f ∷ []
+pub taken-deeper : (l : ℕ) (fs one : List File) → (l ≡ 0 → ⊥) → takenFrom l fs one ≡ one
 unfolding takenFrom
-taken-deeper zero fs f e = absurd (e refl)
-taken-deeper (suc l) fs f e = refl
+taken-deeper zero fs one e = absurd (e refl)
+taken-deeper (suc l) fs one e = refl
 
--- of a manual pick at level 0
-pub manual-first : (m l : ℕ) (fs : List File) (r : Range) → l ≡ 0 → manualInputs m l fs r ≡ overlapping l fs r
-unfolding manualInputs
-manual-first m l fs r e = rw e
+-- the limit of a manual pick at level 0
+pub limit-first : (m l : ℕ) → l ≡ 0 → limitOf m l ≡ 18446744073709551615
+unfolding limitOf
+limit-first m l e = rw e
 
 -- deeper
-pub manual-deeper : (m l : ℕ) (fs : List File) (r : Range) → (l ≡ 0 → ⊥) → manualInputs m l fs r ≡ upTo m 0 (overlapping l fs r)
-unfolding manualInputs
-manual-deeper m zero fs r e = absurd (e refl)
-manual-deeper m (suc l) fs r e = refl
+pub limit-deeper : (m l : ℕ) → (l ≡ 0 → ⊥) → limitOf m l ≡ m
+unfolding limitOf
+limit-deeper m zero e = absurd (e refl)
+limit-deeper m (suc l) e = refl
+
+-- what it takes up to that
+pub manual-limited : (s : Store) (m l : ℕ) (r : Range) → wellStore s ≡ true → l < 7 → upTo (limitOf m l) 0 (overlapping l (level (stateOf s) l) r) ≡ manualInputs m l (level (stateOf s) l) r
+unfolding manualInputs limitOf
+manual-limited s m zero r h k = all-taken s 0 h k (upTo 18446744073709551615 0 (overlapping 0 (level (stateOf s) 0) r)) r r refl refl
+manual-limited s m (suc l) r h k = refl
 
 -- ---- the rest of a pick, part by part
 pub complete-by : (t : State) (m : ℕ) (c : Cause) (l : ℕ) (first second chosen grand : List File)

@@ -4,24 +4,19 @@ use mathlib.Core.Path.{_≡_, refl, sym, ap, subst, _∙_}
 use mathlib.Core.Logic.{⊎-elim}
 use mathlib.Core.Bool.{true}
 use mathlib.Core.Option.{some}
-use mathlib.Core.List.{List, [], _∷_, _++_, map, List·Memᴰ as In, List·Memᴰ·head as here, List·Memᴰ·tail as there, List·Memᴰ·not-nil as not-nil, List·Memᴰ·eq-of-singleton as in-one, List·Memᴰ·append-cases as append-cases, Memᴰ·append-left as in-left}
+use mathlib.Core.List.{List, [], _∷_, _++_, map, List·Memᴰ as In, List·Memᴰ·head as here, List·Memᴰ·tail as there, List·Memᴰ·not-nil as not-nil, List·Memᴰ·eq-of-singleton as in-one, List·Memᴰ·append-cases as append-cases}
 use native.Mathlib.Omega.{arith}
-use lib.ListN.{length, getD, take, drop, set, replicate, length-append, length-replicate, length-map, take-append-drop}
-use lib.Seq.{length-take-le, take-take}
+use lib.ListN.{length, getD, take, set, replicate, length-replicate, length-map}
+use lib.Seq.{length-take-le}
 use Rattle.lemmas.specs.Lists.{all, sum}
 use Rattle.lemmas.specs.ListLaws.{all-in, getD-in}
-use Rattle.lemmas.specs.Slices.{take-map, length-put, in-front, getD-map, sum-next, sum-take}
+use Rattle.lemmas.specs.Slices.{length-put, in-front, getD-map, sum-next, sum-take}
 use Rattle.lemmas.specs.Maps.{map-set}
 use Rattle.model.specs.File.{File, full, level, total, maxSize, goodFile, setPointer}
 use Rattle.model.specs.Formed.{goodFile-says}
-use Rattle.model.specs.Range.{Range, between, overlapping, lowKey, highKey, rangeOf}
-use Rattle.keys.specs.declared.Key.{Key}
-use Rattle.keys.specs.Key.{keyOf, keyRecord, padded}
-use Rattle.keys.specs.KeyLaws.{keyOf-record}
-use Rattle.records.specs.declared.Ends.{Ends}
+use Rattle.keys.specs.Key.{keyRecord}
 use Rattle.records.specs.Record.{fileOf}
 use Rattle.records.specs.RecordLaws.{past}
-use Rattle.records.specs.Run.{endsOf}
 use Rattle.levels.specs.LevelsLaws as levels
 use Rattle.counters.specs.Counters.{countersOf, countersRecord}
 use Rattle.store.specs.declared.Pointer.{Pointer}
@@ -29,22 +24,15 @@ use Rattle.store.specs.declared.Store.{Store}
 use Rattle.store.specs.Store.{pointerOf, pointerRecord, stateOf, storeOf, wellStore}
 use Rattle.store.specs.StoreLaws as store
 use Rattle.ranges.specs.declared.Places.{Places}
-use Rattle.ranges.specs.Ranges.{spanOf, spanRecord, listedAt, placesOf, joinedPlaces, Placed, fileAt, filesAt, startAt, endAt, overlappingIn}
-use Rattle.ranges.specs.RangesLaws.{span-between}
-use Rattle.ranges.specs.PlacesLaws.{listed-of, placed-of, listed-count, joined-count, joined-listed, files-length, files-append, laying-start, laying-cons, laying-nil}
-use Rattle.ranges.specs.CallsLaws.{level-ends, files-room, level-placed, level-files, level-few}
-use Rattle.picks.specs.Picks.{inputsOf, Held}
+use Rattle.ranges.specs.Ranges.{inputsOf, Held, listedAt, placesOf, joinedPlaces, Placed, fileAt, filesAt, startAt, endAt}
+use Rattle.ranges.specs.PlacesLaws.{listed-of, placed-of, listed-count, joined-count, joined-listed, files-append, laying-start, laying-cons, laying-nil}
+use Rattle.ranges.specs.CallsLaws.{level-ends}
+use Rattle.ranges.specs.Found.{Summed, Known}
+use Rattle.ranges.specs.FoundLaws.{summed-one}
+use Rattle.picks.specs.Picks.{oneFound}
 
 -- ---- inputs
 module _ (s : Store) where
-  -- as many files as places
-  pub held-count : (n : ℕ) (p : Places) → Held s n p → length (inputsOf s p) ≡ p .count
-  unfolding inputsOf listedAt
-  held-count n p h =
-      let room = h .placed .room in
-      let array = h .array in
-      files-length (s .files) (take (p .count) (p .at)) ∙ length-take-le (p .count) (p .at) (omega arith)
-
   -- the files at a list of places
   pub inputs-at : (ps : List ℕ) → inputsOf s (placesOf ps) ≡ filesAt (s .files) ps
   unfolding inputsOf
@@ -80,7 +68,7 @@ one-is i =
     sym (laying-nil (set d 0 i) 1) ∙ laying-cons d 0 i [] (omega arith) ∙ laying-start (i ∷ [])
 
 -- a place of a level
-pub one-held : (s : Store) (n i : ℕ) → wellStore s ≡ true → startAt s n ≤ i → i < endAt s n → Held s n (placesOf (i ∷ []))
+one-held : (s : Store) (n i : ℕ) → wellStore s ≡ true → startAt s n ≤ i → i < endAt s n → Held s n (placesOf (i ∷ []))
 unfolding placesOf
 one-held s n i h a b =
     let ends = level-ends s n in
@@ -95,6 +83,13 @@ pub one-inputs : (s : Store) (i : ℕ) → inputsOf s (placesOf (i ∷ [])) ≡ 
 unfolding filesAt
 one-inputs s i = inputs-at s (i ∷ [])
 
+-- it is found there
+pub one-known : (s : Store) (n i : ℕ) → wellStore s ≡ true → startAt s n ≤ i → i < endAt s n → Known s n (oneFound i (getD (s .files) i past))
+unfolding oneFound fileAt
+one-known s n i h a b =
+    let f = getD (s .files) i past in
+    record { held = one-held s n i h a b; sums = subst (λ (fs : List File). Summed fs (record { low = f .smallest; high = f .largest }) (f .size)) (sym (one-inputs s i)) (summed-one f) }
+
 -- no place
 pub none-held : (s : Store) (n : ℕ) → Held s n (record { at = replicate 256 0; count = 0 })
 unfolding listedAt
@@ -104,65 +99,6 @@ none-held s n = record { array = length-replicate {A = ℕ} 256 0; placed = reco
 pub none-inputs : (s : Store) → inputsOf s (record { at = replicate 256 0; count = 0 }) ≡ []
 unfolding inputsOf listedAt filesAt
 none-inputs s = refl
-
--- ---- the first of some inputs
-module _ (s : Store) (n : ℕ) (p : Places) (k : ℕ) (h : Held s n p) (l : k ≤ p .count) where
-  -- places that are listed still
-  front-in : (i : ℕ) → In i (take k (p .at)) → In i (take (p .count) (p .at))
-  front-in i m =
-      let e : take k (take (p .count) (p .at)) ≡ take k (p .at) = take-take k (p .count) (p .at) l in
-      let whole = take-append-drop k (take (p .count) (p .at)) in
-      subst (λ (xs : List ℕ). In i xs) whole (in-left (drop k (take (p .count) (p .at))) (subst (λ (xs : List ℕ). In i xs) (sym e) m))
-
-  -- held as all are
-  pub front-held : Held s n (record { at = p .at; count = k })
-  unfolding listedAt
-  front-held =
-      let room = h .placed .room in
-      let few = h .few in
-      record { array = h .array; placed = record { room = omega arith; below = λ i m. h .placed .below i (front-in i m) }; few = omega arith }
-
-  -- the first files
-  pub front-inputs : inputsOf s (record { at = p .at; count = k }) ≡ take k (inputsOf s p)
-  unfolding inputsOf listedAt filesAt
-  front-inputs =
-      ap (map (fileAt (s .files))) (sym (take-take k (p .count) (p .at) l)) ∙ sym (take-map (fileAt (s .files)) k (take (p .count) (p .at)))
-
--- ---- the files of a level that overlap a range
-module _ (s : Store) (n : ℕ) (r : Range) where
-  pub over-held : wellStore s ≡ true → Held s n (placesOf (overlappingIn s n r))
-  unfolding placesOf
-  over-held h =
-      let room = files-room s n h in
-      let ends = level-ends s n in
-      let few = level-few s n r in
-      record { array = array-of (overlappingIn s n r) (omega arith); placed = level-placed s n h r; few = few }
-
-  -- the files there are the model's
-  pub over-inputs : wellStore s ≡ true → n < length (s .counts) → inputsOf s (placesOf (overlappingIn s n r)) ≡ overlapping n (level (stateOf s) n) r
-  over-inputs h k = inputs-at s (overlappingIn s n r) ∙ level-files s n h r k
-
--- a key by value that is kept of a key stands for it
-kept-key : (k : Key) (x : List ℕ) → k ≡ keyRecord x → length (k .bytes) ≡ 40 → keyOf k ≡ x
-unfolding keyRecord padded
-kept-key k x e q =
-    let zeros = replicate {A = ℕ} (40 - length x) 0 in
-    let n : length (x ++ zeros) ≡ 40 = sym (ap (λ (y : Key). length (y .bytes)) e) ∙ q in
-    ap keyOf e ∙ keyOf-record x (omega (arith, length-append x zeros))
-
--- the range between the ends of files is their range
-pub ends-range : (ends : Ends) (fs : List File) → ends ≡ endsOf fs → length (ends .low .bytes) ≡ 40 → length (ends .high .bytes) ≡ 40
-    → spanOf (spanRecord (between (keyOf (ends .low)) (keyOf (ends .high)))) ≡ rangeOf fs
-unfolding rangeOf endsOf
-ends-range ends fs e a b =
-    let low = kept-key (ends .low) (lowKey fs) (ap (λ (x : Ends). x .low) e) a in
-    let high = kept-key (ends .high) (highKey fs) (ap (λ (x : Ends). x .high) e) b in
-    span-between (ends .low) (ends .high) ∙ rw (low, high)
-
--- the largest key of files, from their ends
-pub ends-high : (ends : Ends) (fs : List File) → ends ≡ endsOf fs → length (ends .high .bytes) ≡ 40 → keyOf (ends .high) ≡ highKey fs
-unfolding endsOf
-ends-high ends fs e b = kept-key (ends .high) (highKey fs) (ap (λ (x : Ends). x .high) e) b
 
 -- ---- how many and how large
 -- three levels have no more files than all

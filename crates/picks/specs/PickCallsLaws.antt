@@ -37,11 +37,11 @@ three-laid first second grand =
 
 -- ---- a size pick
 -- from the file to start with
-pub size-from : (l : ℕ) (o : Option Key) (fs : List File) (f : File) → startFile o fs ≡ some f → takenFrom l fs f ≡ sizeInputs l o fs
+pub size-from : (l : ℕ) (o : Option Key) (fs : List File) (f : File) → startFile o fs ≡ some f → takenFrom l fs (f ∷ []) ≡ sizeInputs l o fs
 unfolding sizeInputs takenFrom Option·toList
 size-from l o fs f e = go l
   where
-    go : (l : ℕ) → takenFrom l fs f ≡ sizeInputs l o fs
+    go : (l : ℕ) → takenFrom l fs (f ∷ []) ≡ sizeInputs l o fs
     go zero = rw e
     go (suc l) = rw e
 

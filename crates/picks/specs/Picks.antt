@@ -1,10 +1,9 @@
 -- The inputs of a pick as places in a store's array, and the file to start with. Assumes nothing.
-use Prim.Native.Nat.{ℕ, zero, suc, _-_, _≤_, min}
-use mathlib.Core.Path.{_≡_}
+use Prim.Native.Nat.{ℕ, zero, suc, _-_, min}
 use mathlib.Core.List.{List, [], _∷_}
 use mathlib.Core.Option.{Option, none, some, orElse}
 use lib.ListN.{length, getD}
-use Rattle.lemmas.specs.Lists.{find, upFrom, sum}
+use Rattle.lemmas.specs.Lists.{find, upFrom}
 use Rattle.model.specs.Key.{Key, before}
 use Rattle.model.specs.File.{File}
 use Rattle.model.specs.Range.{overlapping, rangeOf}
@@ -12,20 +11,19 @@ use Rattle.records.specs.declared.FileRecord.{FileRecord}
 use Rattle.store.specs.declared.Store.{Store}
 use Rattle.store.specs.Store.{pointerOf}
 use Rattle.store.specs.StoreLaws.{past}
-use Rattle.ranges.specs.declared.Places.{Places}
-use Rattle.ranges.specs.Ranges.{listedAt, Placed, fileAt, filesAt, startAt, endAt}
+use Rattle.ranges.specs.declared.Found.{Found}
+use Rattle.ranges.specs.Ranges.{placesOf, fileAt, startAt, endAt}
 use Rattle.picks.specs.declared.Start.{Start}
 use Rattle.picks.specs.declared.Start.the-variants.{At, Nothing}
 
--- the files that stand at places of a store
-unfoldable pub inputsOf : Store → Places → List File
-inputsOf s p = filesAt (s .files) (listedAt p)
+-- one file found, by its place and its record
+unfoldable pub oneFound : ℕ → FileRecord → Found
+oneFound i f = record { places = placesOf (i ∷ []); ends = record { low = f .smallest; high = f .largest }; bytes = f .size }
 
--- places that hold files, no more than a level has
-pub record Held (s : Store) (n : ℕ) (p : Places) : Type 0 where
-  pub array : length (p .at) ≡ 256
-  pub placed : Placed (sum (s .counts)) p
-  pub few : p .count ≤ getD (s .counts) n 0
+-- the bytes above which a manual pick takes no further file: none at level 0
+unfoldable pub limitOf : ℕ → ℕ → ℕ
+limitOf m zero = 18446744073709551615
+limitOf m (suc l) = m
 
 -- the place that a search found
 unfoldable pub placeOf : Start → Option ℕ
@@ -48,7 +46,7 @@ startPlace (some k) from to files =
 unfoldable pub startIn : Store → ℕ → Option ℕ
 startIn s n = startPlace (pointerOf (getD (s .pointers) n past)) (startAt s n) (endAt s n) (s .files)
 
--- the first inputs of a size pick from the file to start with: that file; at level 0 the widening of its range replaces it
-unfoldable pub takenFrom : ℕ → List File → File → List File
-takenFrom zero fs f = overlapping 0 fs (rangeOf (f ∷ []))
-takenFrom (suc l) fs f = f ∷ []
+-- the first inputs of a size pick from the file to start with, as a list of one: that file; at level 0 the widening of its range replaces it
+unfoldable pub takenFrom : ℕ → List File → List File → List File
+takenFrom zero fs one = overlapping 0 fs (rangeOf one)
+takenFrom (suc l) fs one = one

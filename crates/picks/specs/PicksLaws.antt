@@ -72,27 +72,49 @@ module _ (s : Store) (call : State → Answer model.Pick) (sound : (k : model.Pi
             store = store.held-well (k .after) (formed-says full (k .after) .1 (g .keeps));
           }
 
+  -- a well-formed store is left well-formed, whatever the answer
+  leaves : wellStore s ≡ true → wellStore (pickOf s (onStore s call) .store) ≡ true
+  unfolding pickOf
+  leaves h = go (onStore s call) refl
+    where
+      go : (a : Answer model.Pick) → onStore s call ≡ a → wellStore (pickOf s a .store) ≡ true
+      go (refused n) e = h
+      go (gives k) e = store.held-well (k .after) (formed-says full (k .after) .1 (sound k (given-on s call k e) .keeps))
+
 -- a size pick
-pub size-accepted : (s : Store) (m : ℕ) → pickOf s (onStore s (λ t. sizePick full t m)) .outcome ≡ Done → Accepted s (pickOf s (onStore s (λ t. sizePick full t m)))
-unfolding full
-size-accepted s m = by-value s (λ t. sizePick full t m) (λ k e. record {
-  good = size-good full (stateOf s) m k (omega arith) e;
-  of-level = size-inputs-of-level full (stateOf s) m k e;
-  some-input = size-first-nonempty full (stateOf s) m k e;
-  second-same = size-second-same full (stateOf s) m k e;
-  keeps = size-keeps full (stateOf s) m k e;
-})
+module _ (s : Store) (m : ℕ) where
+  size-sound : (k : model.Pick) → sizePick full (stateOf s) m ≡ gives k → Sound (stateOf s) k
+  unfolding full
+  size-sound k e = record {
+    good = size-good full (stateOf s) m k (omega arith) e;
+    of-level = size-inputs-of-level full (stateOf s) m k e;
+    some-input = size-first-nonempty full (stateOf s) m k e;
+    second-same = size-second-same full (stateOf s) m k e;
+    keeps = size-keeps full (stateOf s) m k e;
+  }
+
+  pub size-accepted : pickOf s (onStore s (λ t. sizePick full t m)) .outcome ≡ Done → Accepted s (pickOf s (onStore s (λ t. sizePick full t m)))
+  size-accepted = by-value s (λ t. sizePick full t m) size-sound
+
+  pub size-leaves : wellStore s ≡ true → wellStore (pickOf s (onStore s (λ t. sizePick full t m)) .store) ≡ true
+  size-leaves = leaves s (λ t. sizePick full t m) size-sound
 
 -- a manual pick
-pub range-accepted : (s : Store) (m l : ℕ) (a b : Key)
-    → pickOf s (onStore s (λ t. manualPick full t m l a b)) .outcome ≡ Done → Accepted s (pickOf s (onStore s (λ t. manualPick full t m l a b)))
-range-accepted s m l a b = by-value s (λ t. manualPick full t m l a b) (λ k e. record {
-  good = range-good full (stateOf s) m l a b k e;
-  of-level = range-inputs-of-level full (stateOf s) m l a b k e;
-  some-input = range-first-nonempty full (stateOf s) m l a b k e;
-  second-same = range-second-same full (stateOf s) m l a b k e;
-  keeps = range-keeps full (stateOf s) m l a b k e;
-})
+module _ (s : Store) (m l : ℕ) (a b : Key) where
+  range-sound : (k : model.Pick) → manualPick full (stateOf s) m l a b ≡ gives k → Sound (stateOf s) k
+  range-sound k e = record {
+    good = range-good full (stateOf s) m l a b k e;
+    of-level = range-inputs-of-level full (stateOf s) m l a b k e;
+    some-input = range-first-nonempty full (stateOf s) m l a b k e;
+    second-same = range-second-same full (stateOf s) m l a b k e;
+    keeps = range-keeps full (stateOf s) m l a b k e;
+  }
+
+  pub range-accepted : pickOf s (onStore s (λ t. manualPick full t m l a b)) .outcome ≡ Done → Accepted s (pickOf s (onStore s (λ t. manualPick full t m l a b)))
+  range-accepted = by-value s (λ t. manualPick full t m l a b) range-sound
+
+  pub range-leaves : wellStore s ≡ true → wellStore (pickOf s (onStore s (λ t. manualPick full t m l a b)) .store) ≡ true
+  range-leaves = leaves s (λ t. manualPick full t m l a b) range-sound
 
 -- a refused pick leaves the store as it was
 pub refused-leaves : (s : Store) (a : Answer model.Pick) (n : ℕ) → pickOf s a .outcome ≡ Refused n → pickOf s a .store ≡ s

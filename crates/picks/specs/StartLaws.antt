@@ -2,17 +2,20 @@
 use Prim.Native.Nat.{ℕ, _+_, _-_, _≤_, _<_, min}
 use mathlib.Core.Path.{_≡_, refl, sym, ap, _∙_}
 use mathlib.Core.Bool.{Bool, true, false}
-use mathlib.Core.List.{List, [], _∷_, map, List·Memᴰ as In, List·Memᴰ·head as here}
+use mathlib.Core.List.{List, [], _∷_, map, map-map, List·Memᴰ as In, List·Memᴰ·head as here}
 use mathlib.Core.Option.{Option, none, some, orElse, Option·map}
 use native.Mathlib.Omega.{arith}
+use lib.Dec.{ltb}
+use borrow.Author.Tests.{ltb-true, ltb-false}
 use lib.ListN.{length, getD}
+use lib.Seq.{slice}
 use Rattle.lemmas.specs.Order.{clash}
 use Rattle.lemmas.specs.Lists.{find, upFrom, isEmpty}
 use Rattle.lemmas.specs.ListLaws.{find-some, upFrom-in}
 use Rattle.lemmas.specs.Loops.{find-here, find-later}
 use Rattle.lemmas.specs.Maps.{find-map}
-use Rattle.lemmas.specs.Slices.{getD-map}
-use Rattle.lemmas.specs.UpFrom.{upFrom-turn, upFrom-end}
+use Rattle.lemmas.specs.Slices.{getD-map, take-drop}
+use Rattle.lemmas.specs.UpFrom.{upFrom-turn, upFrom-end, upFrom-run}
 use Rattle.model.specs.Key.{Key, before}
 use Rattle.model.specs.File.{File, level, pointer}
 use Rattle.model.specs.Pick.{firstFile, startFile}
@@ -26,7 +29,6 @@ use Rattle.store.specs.declared.Store.{Store}
 use Rattle.store.specs.Store.{pointerOf, stateOf, wellStore}
 use Rattle.store.specs.StoreLaws.{past}
 use Rattle.ranges.specs.Ranges.{fileAt, startAt, endAt}
-use Rattle.ranges.specs.PlacesLaws.{all-places}
 use Rattle.ranges.specs.CallsLaws.{level-run, level-ends, files-room}
 use Rattle.picks.specs.Picks.{firstPlace, startPlace, startIn}
 
@@ -88,6 +90,25 @@ module _ (p : Pointer) (from to : ℕ) (files : List FileRecord) where
   start-wraps e h g f = rw (e, f) (first-is from to files h g)
 
 -- ---- what it finds
+-- the files at all places of a run are the run
+all-places : (i e : ℕ) (files : List FileRecord) → map (fileAt files) (placesFrom i e files) ≡ run i e files
+unfolding run fileAt
+all-places i e files = go (ltb i m) refl
+  where
+    m : ℕ
+    m = min e (length files)
+
+    go : (t : Bool) → ltb i m ≡ t → map (λ j. fileOf (getD files j record-laws.past)) (upFrom i (m - i)) ≡ map fileOf (slice i e files)
+    go true t =
+        let h = ltb-true i m t in
+        let place : i + (m - i) ≡ m = omega arith in
+        sym (map-map fileOf (λ j. getD files j record-laws.past) (upFrom i (m - i)))
+        ∙ ap (map fileOf) (upFrom-run files record-laws.past i (m - i) (omega arith) ∙ take-drop i (m - i) files ∙ ap (λ (k : ℕ). slice i k files) place)
+        ∙ record-laws.run-room i e files (length files) refl
+    go false t =
+        let h = ltb-false i m t in
+        ap (map (λ j. fileOf (getD files j record-laws.past))) (upFrom-end i m h) ∙ sym (record-laws.run-ended i m files h) ∙ record-laws.run-room i e files (length files) refl
+
 -- the file at the first place is the first file
 first-file : (files : List FileRecord) (ps : List ℕ) → Option·map (fileAt files) (firstPlace ps) ≡ firstFile (map (fileAt files) ps)
 unfolding firstPlace firstFile
@@ -97,13 +118,13 @@ first-file files (i ∷ ps) = refl
 -- the file at the place is the file to start with
 start-is : (o : Option Key) (from to : ℕ) (files : List FileRecord) → Option·map (fileAt files) (startPlace o from to files) ≡ startFile o (run from to files)
 unfolding startPlace startFile orElse
-start-is none from to files = first-file files (placesFrom from to files) ∙ ap firstFile (all-places (λ f. true) from to files)
+start-is none from to files = first-file files (placesFrom from to files) ∙ ap firstFile (all-places from to files)
 start-is (some k) from to files =
     let ps = placesFrom from to files in
     go (find (isAfter k files) ps) (firstPlace ps)
     ∙ ap (λ (x : Option File). orElse x (Option·map (fileAt files) (firstPlace ps))) (sym (find-map (fileAt files) (λ f. before k (f .largest)) ps))
     ∙ ap (orElse (find (λ f. before k (f .largest)) (map (fileAt files) ps))) (first-file files ps)
-    ∙ ap (λ (fs : List File). orElse (find (λ f. before k (f .largest)) fs) (firstFile fs)) (all-places (λ f. true) from to files)
+    ∙ ap (λ (fs : List File). orElse (find (λ f. before k (f .largest)) fs) (firstFile fs)) (all-places from to files)
   where
     go : (a b : Option ℕ) → Option·map (fileAt files) (orElse a b) ≡ orElse (Option·map (fileAt files) a) (Option·map (fileAt files) b)
     go none b = refl

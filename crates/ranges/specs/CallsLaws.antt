@@ -25,8 +25,7 @@ use Rattle.levels.specs.LevelsLaws as levels
 use Rattle.store.specs.declared.Store.{Store}
 use Rattle.store.specs.Store.{stateOf, wellStore, onStore}
 use Rattle.store.specs.StoreLaws as store
-use Rattle.ranges.specs.Ranges.{placesOf, Placed, recordsAt, filesAt, startAt, endAt, overlappingIn}
-use Rattle.ranges.specs.PlacesLaws.{placed-of, overlapping-in, overlapping-length, overlapping-files}
+use Rattle.ranges.specs.Ranges.{recordsAt, startAt, endAt}
 
 -- ---- a call that asks for a well-formed state, a level and keys before anything else
 module _ {A : Type 0} (s : Store) (n : ℕ) (keys : Bool) (rs : State → List Refusal) (a : State → A) where
@@ -76,26 +75,6 @@ module _ (s : Store) (n : ℕ) where
   -- the files of all levels have room
   pub files-room : wellStore s ≡ true → sum (s .counts) ≤ 256
   files-room h = levels.well-says (s .files) (s .counts) .0 (store.well-levels s h) .sound .room
-
-  module _ (h : wellStore s ≡ true) (r : Range) where
-    -- the places of its files that overlap a range hold files
-    pub level-placed : Placed (sum (s .counts)) (placesOf (overlappingIn s n r))
-    unfolding overlappingIn
-    level-placed =
-        let room = files-room h in
-        let ends = level-ends in
-        placed-of (sum (s .counts)) (overlappingIn s n r) (omega (arith, overlapping-length n (startAt s n) (endAt s n) (s .files) r))
-        (λ i m. let b = overlapping-in n (startAt s n) (endAt s n) (s .files) r i m in omega arith)
-
-    -- and the files there are the model's
-    pub level-files : n < length (s .counts) → filesAt (s .files) (overlappingIn s n r) ≡ overlapping n (level (stateOf s) n) r
-    unfolding overlappingIn
-    level-files k = overlapping-files n (startAt s n) (endAt s n) (s .files) r ∙ ap (λ (fs : List File). overlapping n fs r) (sym (level-run k))
-
-  -- they are no more than the level's files
-  pub level-few : (r : Range) → length (overlappingIn s n r) ≤ getD (s .counts) n 0
-  unfolding overlappingIn
-  level-few r = omega (arith, overlapping-length n (startAt s n) (endAt s n) (s .files) r)
 
 -- the record at a place that holds a file is sound
 pub place-sound : (s : Store) → wellStore s ≡ true → length (s .files) ≡ 256 → (i : ℕ) → i < sum (s .counts) → soundRecord (getD (s .files) i past) ≡ true
@@ -181,10 +160,9 @@ module _ (s : Store) (n : ℕ) (a b : List ℕ) where
     unfolding calls.overlappingInputs
     inputs-key k g = asked-key s n keys tooLong found h k g
 
-    -- the files at the places
-    pub inputs-done : length (s .counts) ≡ 7 → n < 7 → keys ≡ true
-        → onStore s (λ t. calls.overlappingInputs full t n a b (full .room)) ≡ gives (filesAt (s .files) (overlappingIn s n (between a b)))
+    -- the files that overlap
+    pub inputs-done : n < 7 → keys ≡ true → onStore s (λ t. calls.overlappingInputs full t n a b (full .room)) ≡ gives (found (stateOf s))
     unfolding calls.overlappingInputs firstOf _⇒_
-    inputs-done q k g =
+    inputs-done k g =
         let fits = fits-output (stateOf s) n (between a b) (store.well-says s .0 h .formed) in
-        asked-on s n keys tooLong found h k g ∙ rw (le-ltb (full .room) (length (found (stateOf s))) fits) (ap gives (sym (level-files s n h (between a b) (omega arith))))
+        asked-on s n keys tooLong found h k g ∙ rw (le-ltb (full .room) (length (found (stateOf s))) fits)

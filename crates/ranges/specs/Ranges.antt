@@ -1,16 +1,15 @@
 -- Ranges of user keys by value, and the places of files in an array. Assumes nothing.
-use Prim.Native.Nat.{ℕ, zero, suc, _+_, _-_, _≤_, _<_, min}
-use mathlib.Core.Bool.{Bool}
+use Prim.Native.Nat.{ℕ, _+_, _≤_, _<_}
+use mathlib.Core.Path.{_≡_}
 use mathlib.Core.List.{List, map, List·Memᴰ as In}
 use lib.ListN.{length, getD, take, replicate}
-use Rattle.lemmas.specs.Lists.{keep, upFrom, sum}
+use Rattle.lemmas.specs.Lists.{sum}
 use Rattle.lemmas.specs.Slices.{put}
 use Rattle.model.specs.File.{File}
-use Rattle.model.specs.Range.{Range, overlaps, widen}
+use Rattle.model.specs.Range.{Range}
 use Rattle.keys.specs.Key.{userOf, userRecord}
 use Rattle.records.specs.Record.{fileOf}
 use Rattle.records.specs.RecordLaws.{past}
-use Rattle.records.specs.Run.{run}
 use Rattle.records.specs.declared.FileRecord.{FileRecord}
 use Rattle.store.specs.declared.Store.{Store}
 use Rattle.ranges.specs.declared.Span.{Span}
@@ -57,15 +56,6 @@ fileAt files i = fileOf (getD files i past)
 unfoldable pub filesAt : List FileRecord → List ℕ → List File
 filesAt files ps = map (fileAt files) ps
 
--- the places of a run whose files pass
-unfoldable pub placesWhere : (File → Bool) → ℕ → ℕ → List FileRecord → List ℕ
-placesWhere p from to files = keep (λ i. p (fileAt files i)) (upFrom from (min to (length files) - from))
-
--- the places of the files of a level that overlap the range: at level 0 its least widening, deeper the range itself
-unfoldable pub overlappingAt : ℕ → ℕ → ℕ → List FileRecord → Range → List ℕ
-overlappingAt zero from to files r = placesWhere (overlaps (widen (run from to files) r)) from to files
-overlappingAt (suc l) from to files r = placesWhere (overlaps r) from to files
-
 -- where a level of a store starts
 abbrev pub startAt : Store → ℕ → ℕ
 startAt s n = sum (take n (s .counts))
@@ -74,6 +64,12 @@ startAt s n = sum (take n (s .counts))
 abbrev pub endAt : Store → ℕ → ℕ
 endAt s n = startAt s n + getD (s .counts) n 0
 
--- the places of the files of a level of a store that overlap the range
-unfoldable pub overlappingIn : Store → ℕ → Range → List ℕ
-overlappingIn s n r = overlappingAt n (startAt s n) (endAt s n) (s .files) r
+-- the files that stand at places of a store
+unfoldable pub inputsOf : Store → Places → List File
+inputsOf s p = filesAt (s .files) (listedAt p)
+
+-- places that hold files, no more than a level has
+pub record Held (s : Store) (n : ℕ) (p : Places) : Type 0 where
+  pub array : length (p .at) ≡ 256
+  pub placed : Placed (sum (s .counts)) p
+  pub few : p .count ≤ getD (s .counts) n 0

@@ -5,15 +5,18 @@ ghost use Prim.Native.Nat.{_+_, _≤_, _<_, min};
 ghost use Rattle.lemmas.specs.Lists.{any, keep, all};
 ghost use Rattle.model.specs.Calls as calls;
 ghost use Rattle.model.specs.File.{full, total};
+ghost use Rattle.model.specs.File as version;
+ghost use Rattle.model.specs.Pick.{upTo};
 ghost use Rattle.model.specs.Range as model;
 ghost use Rattle.model.specs.Key.{user};
 ghost use Rattle.keys.specs.Key.{keyOf, userOf};
 ghost use Rattle.records.specs.Record.{fileOf, soundRecord};
-ghost use Rattle.records.specs.Run.{run, endsOf};
-ghost use Rattle.store.specs.Store.{onStore, wellStore};
+ghost use Rattle.records.specs.Run.{run};
+ghost use Rattle.store.specs.Store.{onStore, stateOf, wellStore};
 ghost use Rattle.answers.specs.Outcome.{toldOf};
 ghost use Rattle.lists.specs.List.{listOf, listed};
-ghost use Rattle.ranges.specs.Ranges.{spanOf, spanRecord, listedAt, placesOf, joinedPlaces, Placed, recordsAt, filesAt, overlappingAt, overlappingIn};
+ghost use Rattle.ranges.specs.Ranges.{spanOf, spanRecord, listedAt, joinedPlaces, Placed, recordsAt, filesAt, inputsOf};
+ghost use Rattle.ranges.specs.Found.{lowWith, highWith, Ordered, Gathered, Known, Ranging, Joint};
 use answers::Outcome;
 use answers::Refusal;
 use answers::Told;
@@ -36,6 +39,18 @@ pub struct Span {
 pub struct Places {
     pub at: [usize; 256],
     pub count: usize,
+}
+
+// Files of one level: their places, their smallest and largest key (of keys equal in order those of the first file), their bytes.
+pub struct Found {
+    pub places: Places,
+    pub ends: Ends,
+    pub bytes: u64,
+}
+
+impl Found {
+    // A limit that no files' bytes are above.
+    pub const ALL: u64 = 18446744073709551615;
 }
 
 // The range of two internal keys.
@@ -166,44 +181,113 @@ fn widened(files: [FileRecord; 256], from: usize, end: usize, span: Span) -> Spa
     wide
 }
 
-// The places of the files of a level that overlap a range, at level 0 its least widening.
-pub fn overlapping(
-    files: [FileRecord; 256],
-    level: usize,
-    from: usize,
-    to: usize,
-    span: Span,
-) -> Places
-    ensures { λ r. ⌜ r ≡ placesOf (overlappingAt level from to files (spanOf span)) ⌝ }
+// The smallest and the largest key of n files and of m files after them, by those of each; of keys equal in order those of the first file.
+fn joined_ends(ends: Ends, n: usize, more: Ends, m: usize) -> Ends
+    ensures { λ r. ⌜ (keyOf (r .low) ≡ lowWith n (keyOf (ends .low)) m (keyOf (more .low))) × (keyOf (r .high) ≡ highWith n (keyOf (ends .high)) m (keyOf (more .high))) ⌝ }
 {
-    let end = records::within(to);
-    let mut wide = span;
-    if level == 0 {
-        wide = widened(files, from, end, span);
+    if m == 0 {
+        return ends;
     }
-    let mut at = [0usize; 256];
-    let mut n: usize = 0;
-    let mut i = from;
-    while i < end {
-        if overlaps(wide, files[i]) {
-            at[n] = i;
-            n += 1;
-        }
-        i += 1;
+    if n == 0 {
+        return more;
     }
-    Places { at: at, count: n }
+    let mut low = ends.low;
+    let a = more.low;
+    if keys::is_before(a, low) {
+        low = a;
+    }
+    let mut high = ends.high;
+    let b = more.high;
+    if keys::is_before(high, b) {
+        high = b;
+    }
+    Ends {
+        low: low,
+        high: high,
+    }
 }
 
-// The places of the files of a level of a store that overlap a range. For callers of this repository, who have tested the store and the level.
-pub fn overlapping_in(s: Store, level: usize, span: Span) -> Places
+// The files of a run that overlap a range, up to the first that brings their bytes above a limit. The run is ordered by smallest key: none overlaps after
+// one that begins after the range. For callers of this repository, who know the run to be one of a well-formed store.
+fn gathered(files: [FileRecord; 256], from: usize, to: usize, span: Span, most: u64) -> Found
+    requires { ⌜ Ordered files from to ⌝ }
+    ensures { λ r. ⌜ Gathered files from to r × (filesAt files (listedAt (r .places)) ≡ upTo most 0 (keep (model.overlaps (spanOf span)) (run from to files))) ⌝ }
+{
+    let start = span.start;
+    let stop = span.stop;
+    let mut at = [0usize; 256];
+    let mut ends = Ends {
+        low: keys::blank_key(),
+        high: keys::blank_key(),
+    };
+    let mut n: usize = 0;
+    let mut bytes: u64 = 0;
+    let mut i = from;
+    while i < to {
+        let f = files[i];
+        let low = f.smallest;
+        let high = f.largest;
+        if (most < bytes) | keys::user_is_before(stop, low) {
+            i = to;
+        } else {
+            if !keys::user_is_after(start, high) {
+                at[n] = i;
+                let own = Ends {
+                    low: low,
+                    high: high,
+                };
+                ends = joined_ends(ends, n, own, 1);
+                n += 1;
+                bytes += f.size;
+            }
+            i += 1;
+        }
+    }
+    let places = Places { at: at, count: n };
+    Found {
+        places: places,
+        ends: ends,
+        bytes: bytes,
+    }
+}
+
+// The files of a level that overlap a range, at level 0 its least widening, up to the first that brings their bytes above a limit. For callers of this
+// repository, who have tested the store and the level.
+pub fn found_in(s: Store, level: usize, span: Span, most: u64) -> Found
     requires { ⌜ (wellStore s ≡ true) × (level < 7) ⌝ }
-    ensures { λ r. ⌜ r ≡ placesOf (overlappingIn s level (spanOf span)) ⌝ }
+    ensures { λ r. ⌜ Known s level r × (inputsOf s (r .places) ≡ upTo most 0 (model.overlapping level (version.level (stateOf s) level) (spanOf span))) ⌝ }
 {
     let counts = s.counts;
     let from = levels::start_of(counts, level);
     let to = from + counts[level];
     let files = s.files;
-    overlapping(files, level, from, to, span)
+    let mut wide = span;
+    if level == 0 {
+        wide = widened(files, from, to, span);
+    }
+    gathered(files, from, to, wide, most)
+}
+
+// The range of files found.
+pub fn range_of(a: Found) -> Span
+    ensures { λ r. ⌜ Ranging a r ⌝ }
+{
+    let ends = a.ends;
+    let smallest = ends.low;
+    let largest = ends.high;
+    between(smallest, largest)
+}
+
+// The joint range of files found at two levels.
+pub fn joint_range(a: Found, b: Found) -> Span
+    ensures { λ r. ⌜ Joint a b r ⌝ }
+{
+    let first = a.ends;
+    let second = b.ends;
+    let ends = joined_ends(first, a.places.count, second, b.places.count);
+    let low = ends.low;
+    let high = ends.high;
+    between(low, high)
 }
 
 // The places of both, the first ones first. For callers of this repository whose places together are within the room.
@@ -222,63 +306,6 @@ pub fn joined(first: Places, second: Places) -> Places
         j += 1;
     }
     Places { at: at, count: k }
-}
-
-// The sum of the sizes of the files at places, or the largest u64 where that is less. For callers of this repository whose places are within the room.
-pub fn total_at(files: [FileRecord; 256], places: Places) -> u64
-    requires { ⌜ Placed 256 places ⌝ }
-    ensures { λ r. ⌜ r ≡ min (total (filesAt files (listedAt places))) 18446744073709551615 ⌝ }
-{
-    let at = places.at;
-    let count = places.count;
-    let mut s: u64 = 0;
-    let mut k: usize = 0;
-    while k < count {
-        let i = at[k];
-        let x = files[i].size;
-        if 18446744073709551615 - s < x {
-            return 18446744073709551615;
-        }
-        s += x;
-        k += 1;
-    }
-    s
-}
-
-// The smallest and the largest key of the files at places; of keys equal in order those of the first file. For callers of this repository whose places are
-// within the room.
-pub fn ends_at(files: [FileRecord; 256], places: Places) -> Ends
-    requires { ⌜ Placed 256 places ⌝ }
-    ensures { λ r. ⌜ r ≡ endsOf (filesAt files (listedAt places)) ⌝ }
-{
-    let at = places.at;
-    let count = places.count;
-    if count < 1 {
-        return Ends {
-            low: keys::blank_key(),
-            high: keys::blank_key(),
-        };
-    }
-    let first = files[at[0]];
-    let mut low = first.smallest;
-    let mut high = first.largest;
-    let mut k: usize = 1;
-    while k < count {
-        let f = files[at[k]];
-        let a = f.smallest;
-        if keys::is_before(a, low) {
-            low = a;
-        }
-        let b = f.largest;
-        if keys::is_before(high, b) {
-            high = b;
-        }
-        k += 1;
-    }
-    Ends {
-        low: keys::kept(low),
-        high: keys::kept(high),
-    }
 }
 
 // The records at places as a list. For callers of this repository, whose records are those of files.
@@ -348,7 +375,8 @@ pub fn overlapping_inputs(s: Store, level: usize, start: Key, stop: Key) -> List
         return lists::nothing(Refusal::KEY);
     }
     let span = between(start, stop);
-    let places = overlapping_in(s, level, span);
+    let found = found_in(s, level, span, Found::ALL);
+    let places = found.places;
     let files = s.files;
     let outcome = Outcome::Done;
     Listed {

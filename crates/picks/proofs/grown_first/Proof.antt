@@ -1,178 +1,145 @@
 -- `picks::grown_first` meets its contract. Assumes nothing.
 use Prim.Native.Nat.{ℕ, _+_, _*_, _^_, _≤_}
 use mathlib.Core.Path.{_≡_, sym, ap, _∙_}
-use mathlib.Core.List.{List}
+use mathlib.Core.List.{_++_}
 use native.Mathlib.Omega.{arith}
 use native.Mathlib.Numerals.{add-one}
 use lib.ListN.{length}
-use Rattle.lemmas.specs.Lists.{sum}
-use Rattle.model.specs.File.{File, level, total}
+use Rattle.model.specs.File.{level, total}
 use Rattle.model.specs.Range.{overlapping, rangeOf}
 use Rattle.store.specs.Store.{stateOf}
 use Rattle.store.proofs.Shape as store-shape
-use Rattle.ranges.specs.PlacesLaws.{placed-more}
-use Rattle.ranges.specs.CallsLaws.{files-room}
-use Rattle.picks.specs.Picks.{inputsOf}
-use Rattle.picks.specs.HeldLaws.{held-count, held-bytes, inputs-joined, joined-placed, three-counts}
+use Rattle.ranges.specs.Ranges.{spanOf, inputsOf}
+use Rattle.ranges.specs.FoundLaws.{held-count, all-taken}
+use Rattle.picks.specs.HeldLaws.{held-bytes}
 use Rattle.picks.specs.ChoiceLaws.{grown, again, kept-alone, kept-few, kept-large, kept-other, grown-taken}
 use borrow.Author.Needs.{needs}
 use Rattle.picks.proofs.grown_first.Statement.{statement}
 use Rattle.picks.proofs.grown_first.Tie as tie
 
--- how many second inputs there are
-seconds : (c : tie.Start) → let a = c .args in length (inputsOf (a .s) (a .second)) ≡ a .second .count
-seconds c = let a = c .args in held-count (a .s) (a .level + 1) (a .second) (c .pre .4)
+-- how many first and second inputs there are
+firsts : (c : tie.Start) → let a = c .args in length (inputsOf (a .s) (a .first .places)) ≡ a .first .places .count
+firsts c = let a = c .args in held-count (a .s) (a .level) (a .first .places) (c .pre .3 .held)
 
--- both lists have room
-together : (c : tie.Start) → c .args .first .count + c .args .second .count ≤ 256
-together c =
-    let a = c .args in
-    let first = c .pre .3 .few in
-    let second = c .pre .4 .few in
-    omega (arith, three-counts (a .s .counts) (a .level), files-room (a .s) (a .level) (c .pre .0))
+seconds : (c : tie.Start) → let a = c .args in length (inputsOf (a .s) (a .second .places)) ≡ a .second .places .count
+seconds c = let a = c .args in held-count (a .s) (a .level + 1) (a .second .places) (c .pre .4 .held)
 
 returns : tie.Need-returns
 returns c =
     let s = c .before .before in
     let a = s .args in
-    (s .pre .3, sym (kept-alone (stateOf (a .s)) (a .maximum) (a .level) (inputsOf (a .s) (a .first)) (inputsOf (a .s) (a .second)) (seconds s ∙ c .if1 .taken)))
+    (s .pre .3, sym (kept-alone (stateOf (a .s)) (a .maximum) (a .level) (inputsOf (a .s) (a .first .places)) (inputsOf (a .s) (a .second .places)) (seconds s ∙ c .if1 .taken)))
 
-joined-requires : tie.Need-joined-requires
-joined-requires c κs = together (c .before .before)
+joint-range-requires : tie.Need-joint-range-requires
+joint-range-requires c κs = search needs
 
-inputs-over-requires : tie.Need-inputs-over-requires
-inputs-over-requires c κs =
-    let s = c .before .before .before in
-    let a = s .args in
-    let first = s .pre .3 in
-    let second = s .pre .4 in
-    (s .pre .0, omega (arith, s .pre .1), rw (c .joined .ensures) (joined-placed (sum (a .s .counts)) (a .first) (a .second) (first .array) (second .array) (first .placed) (second .placed) (together s)))
+found-in-requires : tie.Need-found-in-requires
+found-in-requires c κs = search needs
 
 -- the grown files are those of the level that overlap the joint range
-grown-is : (c : tie.After-inputs-over) → let a = c .before .before .before .before .args in
-    inputsOf (a .s) (c .inputs-over .result) ≡ grown (stateOf (a .s)) (a .maximum) (a .level) (inputsOf (a .s) (a .first)) (inputsOf (a .s) (a .second))
+grown-is : (c : tie.After-found-in) → let a = c .before .before .before .before .args in
+    inputsOf (a .s) (c .found-in .result .places) ≡ grown (stateOf (a .s)) (a .maximum) (a .level) (inputsOf (a .s) (a .first .places)) (inputsOf (a .s) (a .second .places))
 grown-is c =
     let j = c .before in
-    let a = j .before .before .before .args in
     let s = j .before .before .before in
-    let room = together s in
-    let first = s .pre .3 .array in
-    let second = s .pre .4 .array in
-    let both = ap (inputsOf (a .s)) (j .joined .ensures) ∙ inputs-joined (a .s) (a .first) (a .second) (omega arith) (omega arith) in
-    c .inputs-over .ensures .1 ∙ ap (λ (fs : List File). overlapping (a .level) (level (stateOf (a .s)) (a .level)) (rangeOf fs)) both
+    let a = s .args in
+    all-taken (a .s) (a .level) (s .pre .0) (omega (arith, s .pre .1)) (inputsOf (a .s) (c .found-in .result .places)) (spanOf (j .joint-range .result))
+    (rangeOf (inputsOf (a .s) (a .first .places) ++ inputsOf (a .s) (a .second .places))) (c .found-in .ensures .1) (j .joint-range .ensures .range (a .s) (a .level) (a .level + 1) (s .pre .3) (s .pre .4))
 
 -- how many they are
-grown-count : (c : tie.After-inputs-over) → let a = c .before .before .before .before .args in
-    length (grown (stateOf (a .s)) (a .maximum) (a .level) (inputsOf (a .s) (a .first)) (inputsOf (a .s) (a .second))) ≡ c .inputs-over .result .count
+grown-count : (c : tie.After-found-in) → let a = c .before .before .before .before .args in
+    length (grown (stateOf (a .s)) (a .maximum) (a .level) (inputsOf (a .s) (a .first .places)) (inputsOf (a .s) (a .second .places))) ≡ c .found-in .result .places .count
 grown-count c =
     let a = c .before .before .before .before .args in
-    sym (ap length (grown-is c)) ∙ held-count (a .s) (a .level) (c .inputs-over .result) (c .inputs-over .ensures .0)
-
-firsts : (c : tie.Start) → let a = c .args in length (inputsOf (a .s) (a .first)) ≡ a .first .count
-firsts c = let a = c .args in held-count (a .s) (a .level) (a .first) (c .pre .3)
+    sym (ap length (grown-is c)) ∙ held-count (a .s) (a .level) (c .found-in .result .places) (c .found-in .ensures .0 .held)
 
 returns-2 : tie.Need-returns-2
 returns-2 c =
     let g = c .before .before .before in
     let s = g .before .before .before .before in
     let a = s .args in
-    (s .pre .3, sym (kept-few (stateOf (a .s)) (a .maximum) (a .level) (inputsOf (a .s) (a .first)) (inputsOf (a .s) (a .second)) (omega (arith, grown-count g, firsts s, c .if2 .taken))))
-
-total-at-requires : tie.Need-total-at-requires
-total-at-requires c κs =
-    let g = c .before .before .before .before in
-    let s = g .before .before .before .before in
-    placed-more (sum (s .args .s .counts)) 256 (g .inputs-over .result) (files-room (s .args .s) (s .args .level) (s .pre .0)) (g .inputs-over .ensures .0 .placed)
-
-total-at-requires-2 : tie.Need-total-at-requires-2
-total-at-requires-2 c κs =
-    let s = c .before .before .before .before .before .before .before .before .before in
-    placed-more (sum (s .args .s .counts)) 256 (s .args .second) (files-room (s .args .s) (s .args .level) (s .pre .0)) (s .pre .4 .placed)
+    (s .pre .3, sym (kept-few (stateOf (a .s)) (a .maximum) (a .level) (inputsOf (a .s) (a .first .places)) (inputsOf (a .s) (a .second .places)) (omega (arith, grown-count g, firsts s, c .if2 .taken))))
 
 mul-if3 : tie.Need-mul-if3
 mul-if3 c = search needs
 
 -- their bytes, and those of the second inputs
-grown-bytes : (c : tie.After-total-at) → let g = c .before .before .before .before .before in let a = g .before .before .before .before .args in
-    (c .total-at .result ≡ total (inputsOf (a .s) (g .inputs-over .result))) × (c .total-at .result ≤ 256 * 2 ^ 40)
-unfolding inputsOf
-grown-bytes c =
-    let g = c .before .before .before .before .before in
-    let s = g .before .before .before .before in
+few-bytes : (c : tie.After-found-in) → let a = c .before .before .before .before .args in (c .found-in .result .bytes ≤ 256 * 2 ^ 40) × (a .second .bytes ≤ 256 * 2 ^ 40)
+few-bytes c =
+    let s = c .before .before .before .before in
     let a = s .args in
     let q = store-shape.shape (a .s) _ (s .good .0) .files in
-    let most = held-bytes (a .s) (a .level) (g .inputs-over .result) (s .pre .0) q (g .inputs-over .ensures .0) in
-    let e = c .total-at .ensures in
-    (omega arith, omega arith)
-
-second-bytes : (c : tie.After-total-at2) → let a = c .before .before .before .before .before .before .before .before .before .before .args in
-    (c .total-at2 .result ≡ total (inputsOf (a .s) (a .second))) × (c .total-at2 .result ≤ 256 * 2 ^ 40)
-unfolding inputsOf
-second-bytes c =
-    let s = c .before .before .before .before .before .before .before .before .before .before in
-    let a = s .args in
-    let q = store-shape.shape (a .s) _ (s .good .0) .files in
-    let most = held-bytes (a .s) (a .level + 1) (a .second) (s .pre .0) q (s .pre .4) in
-    let e = c .total-at2 .ensures in
-    (omega arith, omega arith)
+    let g = c .found-in .ensures .0 in (
+      omega (arith, held-bytes (a .s) (a .level) (c .found-in .result .places) (s .pre .0) q (g .held), g .sums .bytes-are),
+      omega (arith, held-bytes (a .s) (a .level + 1) (a .second .places) (s .pre .0) q (s .pre .4 .held), s .pre .4 .sums .bytes-are),
+    )
 
 -- together
-bytes : (c : tie.After-total-at2) → let g = c .before .before .before .before .before .before in let a = g .before .before .before .before .args in
-    c .before .total-at .result + c .total-at2 .result
-    ≡ total (grown (stateOf (a .s)) (a .maximum) (a .level) (inputsOf (a .s) (a .first)) (inputsOf (a .s) (a .second))) + total (inputsOf (a .s) (a .second))
+bytes : (c : tie.After-found-in) → let a = c .before .before .before .before .args in
+    c .found-in .result .bytes + a .second .bytes
+    ≡ total (grown (stateOf (a .s)) (a .maximum) (a .level) (inputsOf (a .s) (a .first .places)) (inputsOf (a .s) (a .second .places))) + total (inputsOf (a .s) (a .second .places))
 bytes c =
-    let g = c .before .before .before .before .before .before in
-    omega (arith, grown-bytes (c .before) .0, second-bytes c .0, ap total (grown-is g))
+    let s = c .before .before .before .before in
+    omega (arith, c .found-in .ensures .0 .sums .bytes-are, s .pre .4 .sums .bytes-are, ap total (grown-is c))
 
 add-if3 : tie.Need-add-if3
-add-if3 c = omega (arith, grown-bytes (c .before) .1, second-bytes c .1)
+add-if3 c =
+    let few = few-bytes (c .before .before .before .before .before) in
+    omega (arith, few .0, few .1)
 
 returns-3 : tie.Need-returns-3
 returns-3 c =
-    let b = c .before in
-    let s = b .before .before .before .before .before .before .before .before .before .before in
+    let g = c .before .before .before .before .before .before in
+    let s = g .before .before .before .before in
     let a = s .args in
-    (s .pre .3, sym (kept-large (stateOf (a .s)) (a .maximum) (a .level) (inputsOf (a .s) (a .first)) (inputsOf (a .s) (a .second)) (omega (arith, bytes b, c .if3 .taken))))
+    (s .pre .3, sym (kept-large (stateOf (a .s)) (a .maximum) (a .level) (inputsOf (a .s) (a .first .places)) (inputsOf (a .s) (a .second .places)) (omega (arith, bytes g, c .if3 .taken))))
 
-add-inputs-over : tie.Need-add-inputs-over
-add-inputs-over c = search needs
+range-of-requires : tie.Need-range-of-requires
+range-of-requires c κs = search needs
 
-inputs-over-requires-2 : tie.Need-inputs-over-requires-2
-inputs-over-requires-2 c κs = search needs
+add-found-in : tie.Need-add-found-in
+add-found-in c = omega (arith, c .before .before .before .before .before .before .before .before .before .before .before .pre .1)
+
+found-in-requires-2 : tie.Need-found-in-requires-2
+found-in-requires-2 c κs =
+    let s = c .before .before .before .before .before .before .before .before .before .before .before in
+    (s .pre .0, omega (arith, s .pre .1))
 
 -- the files of level + 1 that overlap the grown files' range, and how many they are
-again-count : (c : tie.After-inputs-over2) → let a = c .before .before .before .before .before .before .before .before .before .before .before .before .args in
-    length (again (stateOf (a .s)) (a .maximum) (a .level) (inputsOf (a .s) (a .first)) (inputsOf (a .s) (a .second))) ≡ c .inputs-over2 .result .count
+again-count : (c : tie.After-found-in2) → let a = c .before .before .before .before .before .before .before .before .before .before .before .before .args in
+    length (again (stateOf (a .s)) (a .maximum) (a .level) (inputsOf (a .s) (a .first .places)) (inputsOf (a .s) (a .second .places))) ≡ c .found-in2 .result .places .count
 again-count c =
-    let g = c .before .before .before .before .before .before .before .before in
-    let a = g .before .before .before .before .args in
+    let r = c .before in
+    let g = r .before .before .before .before .before .before .before in
+    let s = g .before .before .before .before in
+    let a = s .args in
     let l = a .level in
-    let fs = grown (stateOf (a .s)) (a .maximum) l (inputsOf (a .s) (a .first)) (inputsOf (a .s) (a .second)) in
-    let is = c .inputs-over2 .ensures .1 ∙ ap (λ (gs : List File). overlapping (l + 1) (level (stateOf (a .s)) (l + 1)) (rangeOf gs)) (grown-is g)
+    let fs = grown (stateOf (a .s)) (a .maximum) l (inputsOf (a .s) (a .first .places)) (inputsOf (a .s) (a .second .places)) in
+    let is = all-taken (a .s) (l + 1) (s .pre .0) (omega (arith, s .pre .1)) (inputsOf (a .s) (c .found-in2 .result .places)) (spanOf (r .range-of .result)) (rangeOf fs) (c .found-in2 .ensures .1)
+    (r .range-of .ensures .range (a .s) l (g .found-in .ensures .0) ∙ ap rangeOf (grown-is g))
     ∙ ap (λ (n : ℕ). overlapping n (level (stateOf (a .s)) n) (rangeOf fs)) (add-one l) in
-    sym (ap length is) ∙ held-count (a .s) (l + 1) (c .inputs-over2 .result) (c .inputs-over2 .ensures .0)
+    sym (ap length is) ∙ held-count (a .s) (l + 1) (c .found-in2 .result .places) (c .found-in2 .ensures .0 .held)
 
 returns-4 : tie.Need-returns-4
 returns-4 c =
     let b = c .before .before .before in
     let s = b .before .before .before .before .before .before .before .before .before .before .before .before in
     let a = s .args in
-    (s .pre .3, sym (kept-other (stateOf (a .s)) (a .maximum) (a .level) (inputsOf (a .s) (a .first)) (inputsOf (a .s) (a .second)) (λ e. c .if4 .taken (sym (again-count b) ∙ e ∙ seconds s))))
+    (s .pre .3, sym (kept-other (stateOf (a .s)) (a .maximum) (a .level) (inputsOf (a .s) (a .first .places)) (inputsOf (a .s) (a .second .places)) (λ e. c .if4 .taken (sym (again-count b) ∙ e ∙ seconds s))))
 
 returns-5 : tie.Need-returns-5
 returns-5 c =
     let b = c .before .before .before in
-    let e3 = b .before in
-    let t = e3 .before in
-    let e2 = t .before .before .before in
+    let e3 = b .before .before in
+    let e2 = e3 .before .before .before in
     let g = e2 .before .before .before in
-    let s = g .before .before .before .before in
-    let a = s .args in
-    let e1 = g .before .before in (
-      g .inputs-over .ensures .0,
+    let e1 = g .before .before in
+    let s = e1 .before .before in
+    let a = s .args in (
+      g .found-in .ensures .0,
       grown-is g
-          ∙ sym (grown-taken (stateOf (a .s)) (a .maximum) (a .level) (inputsOf (a .s) (a .first)) (inputsOf (a .s) (a .second)) (λ e. e1 .if1 .left (sym (seconds s) ∙ e))
-          (omega (arith, grown-count g, firsts s, e2 .if2 .left)) (omega (arith, bytes t, e3 .if3 .left)) (again-count b ∙ c .if4 .left ∙ sym (seconds s))),
+          ∙ sym (grown-taken (stateOf (a .s)) (a .maximum) (a .level) (inputsOf (a .s) (a .first .places)) (inputsOf (a .s) (a .second .places)) (λ e. e1 .if1 .left (sym (seconds s) ∙ e))
+          (omega (arith, grown-count g, firsts s, e2 .if2 .left)) (omega (arith, bytes g, e3 .if3 .left)) (again-count b ∙ c .if4 .left ∙ sym (seconds s))),
     )
 
 pub grown-first-spec : {M : Type 1} → statement M
@@ -180,15 +147,14 @@ grown-first-spec =
     tie.close
     (tie.spec
     returns
-    joined-requires
-    inputs-over-requires
+    joint-range-requires
+    found-in-requires
     returns-2
-    total-at-requires
-    total-at-requires-2
     mul-if3
     add-if3
     returns-3
-    add-inputs-over
-    inputs-over-requires-2
+    range-of-requires
+    add-found-in
+    found-in-requires-2
     returns-4
     returns-5)

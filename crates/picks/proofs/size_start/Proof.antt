@@ -1,69 +1,164 @@
--- `picks::size_start` meets its contract. Assumes nothing.
-use Prim.Native.Nat.{ℕ, _+_, _≤_}
-use mathlib.Core.Path.{ap, _∙_}
+-- `picks::size_start` meets its contract. The loop's invariant: the first file after the pointer is the first of those from i on. Assumes nothing.
+use Prim.Native.Nat.{ℕ, _+_, _-_, _≤_}
+use mathlib.Core.Path.{_≡_, refl, sym, ap, _∙_}
+use mathlib.Core.Bool.{cond}
+use mathlib.Core.Option.{Option, none, some}
 use native.Mathlib.Omega.{arith}
+use borrow.Author.Needs.{needs}
 use borrow.Author.Tests.{not-true, not-false}
 use lib.ListN.{getD}
+use Rattle.lemmas.specs.Lists.{find}
+use Rattle.keys.specs.Key.{keyOf}
 use Rattle.store.specs.Store.{pointerOf}
 use Rattle.store.specs.StoreLaws.{past}
+use Rattle.store.proofs.Shape as store-shape
 use Rattle.ranges.specs.CallsLaws.{level-ends, files-room}
 use Rattle.picks.specs.Picks.{placeOf, startPlace, startIn}
-use borrow.Author.Needs.{needs}
+use Rattle.picks.specs.StartLaws.{placesFrom, isAfter, after-here, after-later, after-none, start-none, start-unset, start-after, start-wraps}
 use Rattle.picks.proofs.size_start.Statement.{statement}
 use Rattle.picks.proofs.size_start.Tie as tie
 
-returns : tie.Need-returns
+abbrev Inv-loop : tie.InvT-loop
+Inv-loop level due s from to key i₀ i = find (isAfter (keyOf key) (s .files)) (placesFrom from to (s .files)) ≡ find (isAfter (keyOf key) (s .files)) (placesFrom i to (s .files))
+
+abbrev μ-loop : tie.MeasureT-loop
+μ-loop level due s from to key i₀ i = to - i
+
+returns : tie.Need-returns Inv-loop μ-loop
 unfolding placeOf
 returns c = rw (not-true (c .before .args .due) (c .if1 .taken))
 
-start-of-requires : tie.Need-start-of-requires
+start-of-requires : tie.Need-start-of-requires Inv-loop μ-loop
 start-of-requires c κs =
     let s = c .before .before in
     (omega (arith, s .pre .1), files-room (s .args .t1) (s .args .level) (s .pre .0))
 
-mul-to : tie.Need-mul-to
+mul-to : tie.Need-mul-to Inv-loop μ-loop
 mul-to c = search needs
 
-array-read-to : tie.Need-array-read-to
+array-read-to : tie.Need-array-read-to Inv-loop μ-loop
 array-read-to c = search needs
 
 -- the level ends within the room
-ends : (c : tie.After-start-of) → let a = c .before .before .before .args in c .start-of .result + getD (a .t1 .counts) (a .level) 0 ≤ 256
+ends : (c : tie.After-start-of Inv-loop μ-loop) → let a = c .before .before .before .args in c .start-of .result + getD (a .t1 .counts) (a .level) 0 ≤ 256
 ends c =
     let s = c .before .before .before in
     rw (c .start-of .ensures) (omega (arith, level-ends (s .args .t1) (s .args .level), files-room (s .args .t1) (s .args .level) (s .pre .0)))
 
-add-to : tie.Need-add-to
+-- the answer is the search over the level's run, where work is due
+answer : (c : tie.After-start-of Inv-loop μ-loop) (o : Option ℕ) → let a = c .before .before .before .args in
+    startPlace (pointerOf (getD (a .t1 .pointers) (a .level) past)) (c .start-of .result) (c .start-of .result + getD (a .t1 .counts) (a .level) 0) (a .t1 .files) ≡ o → o ≡ cond (a .due) (startIn (a .t1) (a .level)) none
+unfolding startIn
+answer c o e =
+    let a = c .before .before .before .args in
+    rw (not-false (a .due) (c .before .before .if1 .left))
+    (sym e ∙ ap (λ (n : ℕ). startPlace (pointerOf (getD (a .t1 .pointers) (a .level) past)) n (n + getD (a .t1 .counts) (a .level) 0) (a .t1 .files)) (c .start-of .ensures))
+
+add-to : tie.Need-add-to Inv-loop μ-loop
 add-to c = omega (arith, ends c)
 
-mul-p : tie.Need-mul-p
+returns-2 : tie.Need-returns-2 Inv-loop μ-loop
+unfolding placeOf
+returns-2 c =
+    let o = c .before in
+    let a = o .before .before .before .args in
+    answer o none (start-none (getD (a .t1 .pointers) (a .level) past) (o .start-of .result) (o .start-of .result + getD (a .t1 .counts) (a .level) 0) (a .t1 .files) (c .if2 .taken))
+
+mul-p : tie.Need-mul-p Inv-loop μ-loop
 mul-p c = search needs
 
-element-copy-out-p : tie.Need-element-copy-out-p
+element-copy-out-p : tie.Need-element-copy-out-p Inv-loop μ-loop
 element-copy-out-p c = search needs
 
-start-file-requires : tie.Need-start-file-requires
-start-file-requires c κs = ends (c .before .before)
+returns-3 : tie.Need-returns-3 Inv-loop μ-loop
+unfolding placeOf
+returns-3 c =
+    let e = c .before .before .before in
+    let o = e .before in
+    let s = o .before .before .before in
+    let a = s .args in
+    let q = store-shape.shape (a .t1) _ (s .good .0) .files in
+    let end = ends o in
+    answer o (some (o .start-of .result)) (start-unset (getD (a .t1 .pointers) (a .level) past) (o .start-of .result) (o .start-of .result + getD (a .t1 .counts) (a .level) 0) (a .t1 .files) (not-true ((getD (a .t1 .pointers) (a .level) past) .set) (c .if3 .taken)) (omega (arith, e .if2 .left)) (omega arith))
 
-returns-2 : tie.Need-returns-2
-unfolding startIn
-returns-2 c =
-    let b = c .before .before .before in
-    let e = b .before .before in
-    let a = e .before .args in
-    rw (not-false (a .due) (e .if1 .left))
-    (c .start-file .ensures ∙ ap (λ (n : ℕ). startPlace (pointerOf (getD (a .t1 .pointers) (a .level) past)) n (n + getD (a .t1 .counts) (a .level) 0) (a .t1 .files)) (b .start-of .ensures))
+loop-holds : tie.Need-loop-holds Inv-loop μ-loop
+loop-holds c = refl
+
+mul-f : tie.Need-mul-f Inv-loop μ-loop
+mul-f c = omega (arith, ends (c .before .before .before .before .before .before .before))
+
+element-copy-out-f : tie.Need-element-copy-out-f Inv-loop μ-loop
+element-copy-out-f c = omega (arith, ends (c .before .before .before .before .before .before .before))
+
+is-before-requires : tie.Need-is-before-requires Inv-loop μ-loop
+is-before-requires c κs = search needs
+
+returns-4 : tie.Need-returns-4 Inv-loop μ-loop
+unfolding placeOf
+returns-4 c =
+    let b = c .before in
+    let l = b .before .before .before .before in
+    let k = l .before .before in
+    let o = k .before .before .before .before in
+    let s = o .before .before .before in
+    let a = s .args in
+    let q = store-shape.shape (a .t1) _ (s .good .0) .files in
+    let end = ends o in
+    let found = l .loop .inv ∙ after-here (keyOf ((getD (a .t1 .pointers) (a .level) past) .key)) (l .loop .i) (o .start-of .result + getD (a .t1 .counts) (a .level) 0) (a .t1 .files) (omega arith) (omega arith) (sym (b .is-before .ensures) ∙ c .if4 .taken) in
+    answer o (some (l .loop .i)) (start-after (getD (a .t1 .pointers) (a .level) past) (o .start-of .result) (o .start-of .result + getD (a .t1 .counts) (a .level) 0) (a .t1 .files) (l .loop .i) (not-false ((getD (a .t1 .pointers) (a .level) past) .set) (k .if3 .left)) found)
+
+add-i : tie.Need-add-i Inv-loop μ-loop
+add-i c = omega (arith, ends (c .before .before .before .before .before .before .before .before .before .before .before))
+
+loop-less : tie.Need-loop-less Inv-loop μ-loop
+loop-less c = omega arith
+
+loop-again : tie.Need-loop-again Inv-loop μ-loop
+loop-again c =
+    let b = c .before in
+    let l = b .before .before .before .before in
+    let o = l .before .before .before .before .before .before in
+    let s = o .before .before .before in
+    let a = s .args in
+    let q = store-shape.shape (a .t1) _ (s .good .0) .files in
+    let end = ends o in
+    l .loop .inv ∙ after-later (keyOf ((getD (a .t1 .pointers) (a .level) past) .key)) (l .loop .i) (o .start-of .result + getD (a .t1 .counts) (a .level) 0) (a .t1 .files) (omega arith) (omega arith) (sym (b .is-before .ensures) ∙ c .if4 .left)
+
+returns-5 : tie.Need-returns-5 Inv-loop μ-loop
+unfolding placeOf
+returns-5 c =
+    let l = c .before in
+    let k = l .before .before in
+    let e = k .before .before .before in
+    let o = e .before in
+    let s = o .before .before .before in
+    let a = s .args in
+    let q = store-shape.shape (a .t1) _ (s .good .0) .files in
+    let end = ends o in
+    let none-after = l .loop .inv ∙ after-none (keyOf ((getD (a .t1 .pointers) (a .level) past) .key)) (l .loop .i) (o .start-of .result + getD (a .t1 .counts) (a .level) 0) (a .t1 .files) (omega arith) in
+    answer o (some (o .start-of .result)) (start-wraps (getD (a .t1 .pointers) (a .level) past) (o .start-of .result) (o .start-of .result + getD (a .t1 .counts) (a .level) 0) (a .t1 .files) (not-false ((getD (a .t1 .pointers) (a .level) past) .set) (k .if3 .left)) (omega (arith, e .if2 .left)) (omega arith) none-after)
 
 pub size-start-spec : {M : Type 1} → statement M
 size-start-spec =
     tie.close
     (tie.spec
+    Inv-loop
+    μ-loop
     returns
     start-of-requires
     mul-to
     array-read-to
     add-to
+    returns-2
     mul-p
     element-copy-out-p
-    start-file-requires
-    returns-2)
+    returns-3
+    loop-holds
+    mul-f
+    element-copy-out-f
+    is-before-requires
+    returns-4
+    add-i
+    loop-less
+    loop-again
+    returns-5)

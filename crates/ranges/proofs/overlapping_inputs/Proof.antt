@@ -1,26 +1,24 @@
 -- `ranges::overlapping_inputs` meets its contract. Assumes nothing.
-use Prim.Native.Nat.{ℕ}
 use mathlib.Core.Path.{_≡_, sym, ap, _∙_}
 use mathlib.Core.Bool.{true}
-use mathlib.Core.List.{List}
 use native.Mathlib.Omega.{arith}
 use borrow.Author.Tests.{not-true, not-false}
 use Rattle.lemmas.specs.ListLaws.{both}
-use Rattle.model.specs.File.{full}
+use Rattle.model.specs.File.{full, level}
 use Rattle.model.specs.Key.{goodKey}
-use Rattle.model.specs.Range.{Range, between}
+use Rattle.model.specs.Range.{between, overlapping}
 use Rattle.answers.specs.Outcome.{outcomeOf}
 use Rattle.answers.specs.declared.Outcome.the-variants.{Done}
 use Rattle.keys.specs.Key.{keyOf}
 use Rattle.lists.specs.declared.FileList.{FileList}
 use Rattle.lists.specs.List.{listOf, listed}
-use Rattle.store.specs.Store.{wellStore}
+use Rattle.store.specs.Store.{stateOf, wellStore}
 use Rattle.store.proofs.Shape as store-shape
-use Rattle.ranges.specs.declared.Places.{Places}
-use Rattle.ranges.specs.Ranges.{spanOf, listedAt, placesOf, filesAt, overlappingIn}
+use Rattle.ranges.specs.Ranges.{spanOf, listedAt, inputsOf}
 use Rattle.ranges.specs.RangesLaws.{span-between}
-use Rattle.ranges.specs.PlacesLaws.{listed-of, placed-more}
-use Rattle.ranges.specs.CallsLaws.{inputs-ill, inputs-beyond, inputs-key, inputs-done, wrong-left, wrong-right, files-room, level-placed, places-sound}
+use Rattle.ranges.specs.PlacesLaws.{placed-more}
+use Rattle.ranges.specs.FoundLaws.{all-taken}
+use Rattle.ranges.specs.CallsLaws.{inputs-ill, inputs-beyond, inputs-key, inputs-done, wrong-left, wrong-right, files-room, places-sound}
 use borrow.Author.Needs.{needs}
 use Rattle.ranges.proofs.overlapping_inputs.Statement.{statement}
 use Rattle.ranges.proofs.overlapping_inputs.Tie as tie
@@ -89,44 +87,43 @@ returns-4 c =
 between-requires : tie.Need-between-requires
 between-requires c κs = search needs
 
-overlapping-in-requires : tie.Need-overlapping-in-requires
-overlapping-in-requires c κs =
+found-in-requires : tie.Need-found-in-requires
+found-in-requires c κs =
     let e = c .before .before .before .before .before .before in
     (well e, omega arith)
 
--- the places are those of the level's files that overlap
-chosen : (c : tie.After-overlapping-in) → let a = c .before .before .before .before .before .before .before .before .before .args in
-    c .overlapping-in .result ≡ placesOf (overlappingIn (a .s) (a .level) (between (keyOf (a .start)) (keyOf (a .stop))))
+-- the files found are the level's that overlap
+chosen : (c : tie.After-found-in) → let a = c .before .before .before .before .before .before .before .before .before .args in
+    inputsOf (a .s) (c .found-in .result .places) ≡ overlapping (a .level) (level (stateOf (a .s)) (a .level)) (between (keyOf (a .start)) (keyOf (a .stop)))
 chosen c =
     let b = c .before in
-    let a = b .before .before .before .before .before .before .before .before .args in
-    c .overlapping-in .ensures ∙ ap (λ (r : Range). placesOf (overlappingIn (a .s) (a .level) r)) (ap spanOf (b .between .ensures) ∙ span-between (a .start) (a .stop))
+    let e = b .before .before .before .before .before .before in
+    let a = e .before .before .args in
+    all-taken (a .s) (a .level) (well e) (omega arith) (inputsOf (a .s) (c .found-in .result .places)) (spanOf (b .between .result)) (between (keyOf (a .start)) (keyOf (a .stop))) (c .found-in .ensures .1)
+    (ap spanOf (b .between .ensures) ∙ span-between (a .start) (a .stop))
 
 list-at-requires : tie.Need-list-at-requires
 list-at-requires c κs =
-    let o = c .before in
+    let o = c .before .before in
     let e = o .before .before .before .before .before .before .before in
     let start = e .before .before in
     let a = start .args in
-    let ps = overlappingIn (a .s) (a .level) (between (keyOf (a .start)) (keyOf (a .stop))) in
     let q = store-shape.shape (a .s) _ (start .good .0) .files in
-    let placed = level-placed (a .s) (a .level) (well e) (between (keyOf (a .start)) (keyOf (a .stop))) in
-    rw (chosen o) (placed-more _ 256 (placesOf ps) (files-room (a .s) (a .level) (well e)) placed, places-sound (a .s) (well e) q (listedAt (placesOf ps)) (placed .below))
+    let placed = o .found-in .ensures .0 .held .placed in
+    (placed-more _ 256 (o .found-in .result .places) (files-room (a .s) (a .level) (well e)) placed, places-sound (a .s) (well e) q (listedAt (o .found-in .result .places)) (placed .below))
 
 returns-5 : tie.Need-returns-5
-unfolding listed outcomeOf
+unfolding listed outcomeOf inputsOf
 returns-5 c =
-    let o = c .before .before in
+    let o = c .before .before .before in
     let f = o .before .before in
     let e = f .before .before .before .before .before in
     let start = e .before .before in
     let a = start .args in
-    let ps = overlappingIn (a .s) (a .level) (between (keyOf (a .start)) (keyOf (a .stop))) in
-    let seven = store-shape.shape (a .s) _ (start .good .0) .counts in
     let keys = both (goodKey (full .longest) (keyOf (a .start))) (goodKey (full .longest) (keyOf (a .stop))) (start-good (f .before .before)) (sym (f .before .is-good2 .ensures) ∙ not-false (f .before .is-good2 .result) (f .if4 .left)) in
-    let files = c .list-at .ensures ∙ ap (λ (p : Places). listOf (filesAt (a .s .files) (listedAt p))) (chosen o) ∙ ap (λ (l : List ℕ). listOf (filesAt (a .s .files) l)) (listed-of ps) in
+    let files = c .list-at .ensures ∙ ap listOf (chosen o) in
     ap (λ (l : FileList). record { outcome = Done; list = l }) files
-    ∙ ap listed (sym (inputs-done (a .s) (a .level) (keyOf (a .start)) (keyOf (a .stop)) (well e) seven (omega (arith, f .before .before .before .before .if2 .left)) keys))
+    ∙ ap listed (sym (inputs-done (a .s) (a .level) (keyOf (a .start)) (keyOf (a .stop)) (well e) (omega (arith, f .before .before .before .before .if2 .left)) keys))
 
 pub overlapping-inputs-spec : {M : Type 1} → statement M
 overlapping-inputs-spec =
@@ -144,6 +141,6 @@ overlapping-inputs-spec =
     nothing-requires-4
     returns-4
     between-requires
-    overlapping-in-requires
+    found-in-requires
     list-at-requires
     returns-5)
