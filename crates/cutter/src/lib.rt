@@ -102,8 +102,7 @@ fn pass(c: Picked, place: usize, k: Key) -> Passing
     let mut bytes: u64 = 0;
     while at < c.grand {
         let f = c.files[from + at];
-        let high = f.largest;
-        if !keys::is_before(high, k) {
+        if !keys::is_before(f.largest, k) {
             return Passing {
                 place: at,
                 bytes: bytes,

@@ -1,5 +1,3 @@
 pub mod FallingLaws
-pub mod GatherLaws
 pub mod Lookup
 pub mod LookupLaws
-pub mod SearchLaws

@@ -63,14 +63,13 @@ pub fn nothing_asked() -> Asked
 fn is_well_formed_memory(m: Asked) -> bool
     ensures { λ r. ⌜ r ≡ wellAsked m ⌝ }
 {
-    let u = m.user;
-    if !keys::is_sound_user(u) {
+    if !keys::is_sound_user(m.user) {
         return false;
     }
     if m.any {
-        keys::is_good_user(u)
+        keys::is_good_user(m.user)
     } else {
-        u.len == 0
+        m.user.len == 0
     }
 }
 
@@ -79,8 +78,7 @@ fn goes_back(m: Asked, u: UserKey) -> bool
     ensures { λ r. ⌜ r ≡ not (model.notBefore (askedOf m) (userOf u)) ⌝ }
 {
     if m.any {
-        let v = m.user;
-        return keys::user_key_is_before(u, v);
+        return keys::user_key_is_before(u, m.user);
     }
     false
 }

@@ -65,13 +65,10 @@ fn put_file(out: &mut [u8], at: usize, f: FileRecord) -> usize
     requires { ⌜ (wellRecord f ≡ true) × (at + length (writeFile (fileOf f)) ≤ length (now out)) ⌝ }
     ensures { λ r. ⌜ (r ≡ at + length (writeFile (fileOf f))) × (now (out .exit) ≡ put (now (out .entry)) at (writeFile (fileOf f))) ⌝ }
 {
-    let number = f.number;
-    put_number(out, at, 8, number.0);
+    put_number(out, at, 8, f.number.0);
     put_number(out, at + 8, 8, f.size);
-    let low = f.smallest;
-    let next = put_key(out, at + 16, low);
-    let high = f.largest;
-    put_key(out, next, high)
+    let next = put_key(out, at + 16, f.smallest);
+    put_key(out, next, f.largest)
 }
 
 // The counters' section; the place after it.
@@ -79,17 +76,12 @@ fn put_counters(out: &mut [u8], at: usize, c: Counters) -> usize
     requires { ⌜ at + 42 ≤ length (now out) ⌝ }
     ensures { λ r. ⌜ (r ≡ at + 42) × (now (out .exit) ≡ put (now (out .entry)) at (section (bytes 8) (fiveOf (countersOf c)))) ⌝ }
 {
-    let next = c.next;
-    let manifest = c.manifest;
-    let last = c.last;
-    let log = c.log;
-    let previous = c.previous;
     put_number(out, at, 2, 5);
-    put_number(out, at + 2, 8, next.0);
-    put_number(out, at + 10, 8, manifest.0);
-    put_number(out, at + 18, 8, last.0);
-    put_number(out, at + 26, 8, log.0);
-    put_number(out, at + 34, 8, previous.0);
+    put_number(out, at + 2, 8, c.next.0);
+    put_number(out, at + 10, 8, c.manifest.0);
+    put_number(out, at + 18, 8, c.last.0);
+    put_number(out, at + 26, 8, c.log.0);
+    put_number(out, at + 34, 8, c.previous.0);
     at + 42
 }
 
@@ -121,8 +113,7 @@ fn put_pointers(out: &mut [u8], at: usize, pointers: [Pointer; 7]) -> usize
         let p = pointers[level];
         if p.set {
             put_number(out, next, 1, level as u64);
-            let k = p.key;
-            next = put_key(out, next + 1, k);
+            next = put_key(out, next + 1, p.key);
         }
         level += 1;
     }
@@ -165,10 +156,7 @@ fn files_length(files: [FileRecord; 256], n: usize) -> usize
     let mut sum: usize = 0;
     let mut i: usize = 0;
     while i < n {
-        let f = files[i];
-        let low = f.smallest;
-        let high = f.largest;
-        sum += 18 + low.len + high.len;
+        sum += 18 + files[i].smallest.len + files[i].largest.len;
         i += 1;
     }
     sum
@@ -182,10 +170,8 @@ fn pointers_length(pointers: [Pointer; 7]) -> usize
     let mut sum: usize = 0;
     let mut i: usize = 0;
     while i < Level::COUNT {
-        let p = pointers[i];
-        if p.set {
-            let k = p.key;
-            sum += 2 + k.len;
+        if pointers[i].set {
+            sum += 2 + pointers[i].key.len;
         }
         i += 1;
     }
@@ -215,11 +201,10 @@ pub fn write(s: Store, out: &mut [u8]) -> Written
     if out.len() < n {
         return Written::Refused(Refusal::OUTPUT);
     }
-    let c = s.counters;
     let pointers = s.pointers;
     let files = s.files;
     let counts = s.counts;
-    let pointers_at = put_counters(out, 0, c);
+    let pointers_at = put_counters(out, 0, s.counters);
     let levels_at = put_pointers(out, pointers_at, pointers);
     put_levels(out, levels_at, files, counts);
     Written::Bytes(n)

@@ -67,7 +67,7 @@ returns : tie.Need-returns Inv-loop μ-loop
 unfolding fileOf
 returns c =
     let b = c .before in
-    let l = b .before .before .before in
+    let l = b .before .before in
     let o = l .before .loop in
     let p = l .before .before .args .t1 in
     let k = keyOf (l .before .before .args .k) in
@@ -76,13 +76,13 @@ returns c =
     sym (sym (o .inv .1) ∙ passing-stops (o .at) (o .bytes) k (run (from + o .at) (from + p .grand) (p .files)) (run (from + (o .at + 1)) (from + p .grand) (p .files)) (fileOf (getD (p .files) (from + o .at) past)) (step l) t)
 
 -- it is passed: what it adds, and what the key passes after it
-turn : (c : tie.Else1 Inv-loop μ-loop) → let s = c .before .before .before .before .before in let o = s .loop in let a = s .before .args in let p = a .t1 in let from = p .first + p .second in
+turn : (c : tie.Else1 Inv-loop μ-loop) → let s = c .before .before .before .before in let o = s .loop in let a = s .before .args in let p = a .t1 in let from = p .first + p .second in
     passingWith (o .at + 1) (o .bytes + getD (p .files) (from + o .at) past .size) (run (from + (o .at + 1)) (from + p .grand) (p .files)) (keyOf (a .k))
     ≡ passingFrom (a .place) (pickedOf p .grand) (keyOf (a .k))
 unfolding fileOf
 turn c =
     let b = c .before in
-    let l = b .before .before .before in
+    let l = b .before .before in
     let o = l .before .loop in
     let p = l .before .before .args .t1 in
     let k = keyOf (l .before .before .args .k) in
@@ -94,14 +94,14 @@ turn c =
 add-bytes : tie.Need-add-bytes Inv-loop μ-loop
 unfolding passingWith
 add-bytes c =
-    let s = c .before .before .before .before .before .before .before in
+    let s = c .before .before .before .before .before .before in
     omega (arith, ap (λ (x : Passing). x .bytes) (turn (c .before)), passing-bound (s .args .t1) (s .pre .0) (s .args .place) (keyOf (s .args .k)) (long s))
 
 add-at : tie.Need-add-at Inv-loop μ-loop
-add-at c = omega (arith, room (c .before .before .before .before .before .before .before))
+add-at c = omega (arith, room (c .before .before .before .before .before .before))
 
 loop-less : tie.Need-loop-less Inv-loop μ-loop
-loop-less c = omega (arith, room (c .before .before .before .before .before .before .before))
+loop-less c = omega (arith, room (c .before .before .before .before .before .before))
 
 loop-again : tie.Need-loop-again Inv-loop μ-loop
 loop-again c = (omega arith, turn (c .before))

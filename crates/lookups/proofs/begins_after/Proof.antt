@@ -20,7 +20,7 @@ user-is-before-requires c κs = search needs
 returns : tie.Need-returns
 unfolding fileOf
 returns c =
-    let u = c .before .before in
+    let u = c .before in
     let a = u .before .args in
     let low = user (keyOf (a .f .smallest)) in
     c .user-is-before .ensures

@@ -39,13 +39,13 @@ sub-out : tie.Need-sub-out Inv-loop μ-loop
 sub-out c = search needs
 
 mul-out : tie.Need-mul-out Inv-loop μ-loop
-mul-out c = omega (arith, c .before .before .before .before .before .before .loop .inv .fewer)
+mul-out c = omega (arith, c .before .before .before .before .before .loop .inv .fewer)
 
 array-write-out : tie.Need-array-write-out Inv-loop μ-loop
-array-write-out c = omega (arith, c .before .before .before .before .before .before .loop .inv .fewer)
+array-write-out c = omega (arith, c .before .before .before .before .before .loop .inv .fewer)
 
 add-count : tie.Need-add-count Inv-loop μ-loop
-add-count c = omega (arith, c .before .before .before .before .before .before .loop .inv .fewer)
+add-count c = omega (arith, c .before .before .before .before .before .loop .inv .fewer)
 
 add-i : tie.Need-add-i Inv-loop μ-loop
 add-i c = omega arith
@@ -62,7 +62,7 @@ loop-again c =
     let p = holds (userOf (a .u)) in
     let o = l .loop in
     ⊎-elim
-    (λ w. rw (w .3, w .4) (lay-kept p (a .n) (a .t1) (long s) (o .out) (o .count) (o .i) (o .inv) (h .before .before .loop-test .taken) (s .pre) (sym (h .is-held .ensures) ∙ w .0 .taken)))
+    (λ w. rw (w .2, w .3) (lay-kept p (a .n) (a .t1) (long s) (o .out) (o .count) (o .i) (o .inv) (h .before .before .loop-test .taken) (s .pre) (sym (h .is-held .ensures) ∙ w .0 .taken)))
     (λ w. rw (w .1, w .2) (lay-passed p (a .n) (a .t1) (long s) (o .out) (o .count) (o .i) (o .inv) (h .before .before .loop-test .taken) (sym (h .is-held .ensures) ∙ w .0 .left)))
     (c .if1 .came)
 

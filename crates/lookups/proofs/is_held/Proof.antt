@@ -15,7 +15,7 @@ user-is-before-requires c κs = search needs
 returns : tie.Need-returns
 unfolding holds fileOf
 returns c =
-    let a = c .before .before .before .args in
+    let a = c .before .before .args in
     let e : userBefore (userOf (a .u)) (user (keyOf (a .f .smallest))) ≡ true = sym (c .before .user-is-before .ensures) ∙ c .if1 .taken in
     rw e
 
@@ -25,9 +25,9 @@ user-is-after-requires c κs = search needs
 returns-2 : tie.Need-returns-2
 unfolding holds fileOf
 returns-2 c =
-    let d = c .before .before .before in
-    let a = d .before .before .args in
-    let e : userBefore (userOf (a .u)) (user (keyOf (a .f .smallest))) ≡ false = sym (d .user-is-before .ensures) ∙ c .before .before .if1 .left in
+    let d = c .before .before in
+    let a = d .before .args in
+    let e : userBefore (userOf (a .u)) (user (keyOf (a .f .smallest))) ≡ false = sym (d .user-is-before .ensures) ∙ c .before .if1 .left in
     rw e (ap not (c .user-is-after .ensures))
 
 pub is-held-spec : {M : Type 1} → statement M

@@ -48,24 +48,25 @@ use Rattle.records.specs.declared.FileRecord.{FileRecord}
 use Rattle.lists.specs.List.{onList}
 use Rattle.lists.specs.declared.FileList.{FileList}
 use Rattle.answers.specs.declared.Counted.{Counted}
-use Rattle.lookups.specs.Lookup.{onLent, gathered, halved}
-use Rattle.lookups.specs.LookupLaws.{on-gathered, gathered-halved, Answered, answered-as}
+use Rattle.finding.specs.Finding.{onLent, gathered, halved}
+use Rattle.finding.specs.FindingLaws.{on-gathered, gathered-halved}
+use Rattle.lookups.specs.LookupLaws.{Answered, answered-as}
 use Rattle.keys.proofs.Key as K
 use Rattle.keys.proofs.Key.Laws as K′
 use Rattle.lists.proofs.FileList as L
 use Rattle.lists.proofs.FileList.Laws as L′
 use Rattle.answers.proofs.Counted as E
 use Rattle.answers.proofs.Counted.Laws as E′
-use Rattle.lookups.proofs.Reading.{R, lentAt, Own}
-use Rattle.lookups.proofs.Calling.{machK, Search, to-search, goes-search, said-search, Gather, to-gather, goes-gather, said-gather}
-use Rattle.lookups.proofs.search as searching
-use Rattle.lookups.proofs.search.Symbol as search-def
-use Rattle.lookups.proofs.search.Symbol.{name as #lookups·search}
-use Rattle.lookups.proofs.search.Met as search-thm
-use Rattle.lookups.proofs.gather as gather
-use Rattle.lookups.proofs.gather.Symbol as gather-def
-use Rattle.lookups.proofs.gather.Symbol.{name as #lookups·gather}
-use Rattle.lookups.proofs.gather.Met as gather-thm
+use Rattle.finding.proofs.Reading.{R, lentAt, Own}
+use Rattle.finding.proofs.Calling.{machK, Search, to-search, goes-search, said-search, Gather, to-gather, goes-gather, said-gather}
+use Rattle.finding.proofs.search as searching
+use Rattle.finding.proofs.search.Symbol as search-def
+use Rattle.finding.proofs.search.Symbol.{name as #finding·search}
+use Rattle.finding.proofs.search.Met as search-thm
+use Rattle.finding.proofs.gather as gather
+use Rattle.finding.proofs.gather.Symbol as gather-def
+use Rattle.finding.proofs.gather.Symbol.{name as #finding·gather}
+use Rattle.finding.proofs.gather.Met as gather-thm
 use Rattle.lookups.proofs.look_up_list as listed
 use Rattle.lookups.proofs.look_up_list.Symbol as listed-def
 use Rattle.lookups.proofs.look_up_list.Symbol.{name as #lookups·look-up-list}
@@ -153,7 +154,7 @@ module _ {M : Type 1} (𝓤 : URA M) (H : Heap 𝓤) (A : Atoms 𝓤) (W : Given
   abbrev Lasts : Type 0
   Lasts = Unit {0} × (Unit {0} × (Unit {0} × (Unit {0} × (List ℕ × Unit {0}))))
 
-  module _ (C : Calls 𝓤 H) (Λ : Loops 𝓤 H) (fm : FmC 𝓤 H (W .laws) C) (known-search : Triple 𝓤 (C #lookups·search) (Search 𝓤 H A at-mem run)) (known-gather : Triple 𝓤 (C #lookups·gather) (Gather 𝓤 H A at-mem run)) (known-listed : Triple 𝓤 (C #lookups·look-up-list) (Listed 𝓤 H A at-mem run)) where
+  module _ (C : Calls 𝓤 H) (Λ : Loops 𝓤 H) (fm : FmC 𝓤 H (W .laws) C) (known-search : Triple 𝓤 (C #finding·search) (Search 𝓤 H A at-mem run)) (known-gather : Triple 𝓤 (C #finding·gather) (Gather 𝓤 H A at-mem run)) (known-listed : Triple 𝓤 (C #lookups·look-up-list) (Listed 𝓤 H A at-mem run)) where
     walk : Room R (length ys) → ent 𝓤 (onEntry 𝓤 H A looks.signature (κ, (κ′, tt)) (q, (q′, tt)) x at) (WpFn 𝓤 H C Λ code.function (vint w64 n ∷ sl ∷ machK k ∷ ol ∷ []) Post)
     walk room =
         qed W ((‵ (flft κ q) ⊛ (‵ (flft κ′ q′) ⊛ ‵ ftrue)) ∷ ‵ (owns (usize ∷ ShrSlice (named 0) κ R ∷ K.the-row ∷ MutSlice (named 1) κ′ u64 ∷ []) x at) ∷ []) ∵ enter ! C Λ code.function (vint w64 n ∷ sl ∷ machK k ∷ ol ∷ []) _ $
@@ -195,7 +196,7 @@ module _ {M : Type 1} (𝓤 : URA M) (H : Heap 𝓤) (A : Atoms 𝓤) (W : Given
         move ! (10 ∷ 11 ∷ []) $ free1 ! $ move ! (8 ∷ 9 ∷ []) $ free1 ! $ move ! (6 ∷ 7 ∷ []) $ free1 ! $ free0 ! $
         keep ! (4 ∷ 1 ∷ 5 ∷ 2 ∷ 0 ∷ []) $ by ! (exits r w (us .1 .1 .1 .1 .0) (answered l r (us .1 .1 .1 .1 .0) e₂ e₃) same))))))))))))))))))))))))
 
-module _ {M : Type 1} (𝓤 : URA M) (H : Heap 𝓤) (A : Atoms 𝓤) (W : Given 𝓤 H A) (at-mem : Memory → SProp 𝓤) (run : Routine → Fun 𝓤) (𝓣 : Tables 𝓤 H) (known-search : Triple 𝓤 (𝓣 .C #lookups·search) (Search 𝓤 H A at-mem run)) (known-gather : Triple 𝓤 (𝓣 .C #lookups·gather) (Gather 𝓤 H A at-mem run)) (known-listed : Triple 𝓤 (𝓣 .C #lookups·look-up-list) (Listed 𝓤 H A at-mem run)) where
+module _ {M : Type 1} (𝓤 : URA M) (H : Heap 𝓤) (A : Atoms 𝓤) (W : Given 𝓤 H A) (at-mem : Memory → SProp 𝓤) (run : Routine → Fun 𝓤) (𝓣 : Tables 𝓤 H) (known-search : Triple 𝓤 (𝓣 .C #finding·search) (Search 𝓤 H A at-mem run)) (known-gather : Triple 𝓤 (𝓣 .C #finding·gather) (Gather 𝓤 H A at-mem run)) (known-listed : Triple 𝓤 (𝓣 .C #lookups·look-up-list) (Listed 𝓤 H A at-mem run)) where
   looks-walks : Walks 𝓤 H A looks.ended stayed (WpFn 𝓤 H (𝓣 .C) (𝓣 .Λ) code.function) (looks.clauses 𝓤 H A at-mem run)
   looks-walks = walked 𝓤 H A looks.ended stayed (looks.clauses 𝓤 H A at-mem run) (WpFn 𝓤 H (𝓣 .C) (𝓣 .Λ) code.function)
       (λ κs. (uint-vals w64, (slice-vals, (LL.vals K.the-type K′.the-laws, (slice-vals, tt))))) (λ κs. (uint-tells w64, (shr-slice-tells (named 0) (κs .0) R, (LL.tells K.the-type K′.the-laws, (mut-slice-tells (named 1) (κs .1 .0) u64, tt)))))
@@ -214,6 +215,6 @@ look-up-spec 𝓤 H 𝓜 𝓖 𝓡 =
     entered 𝓤 H (tripleOf 𝓤 H (𝓖 .A) looks.signature (looks.spec 𝓤 H (𝓖 .A) (𝓜 .mem) (𝓡 .run)))
     (tables 𝓤 H 𝓜 𝓡 code.env .C) (tables 𝓤 H 𝓜 𝓡 code.env .Λ) #lookups·look-up code.function (code.unfolded 𝓤 H 𝓜 𝓡)
     (looks-meets 𝓤 H (𝓖 .A) (givenOf 𝓤 H 𝓜 𝓖) (𝓜 .mem) (𝓡 .run) (tablesOf 𝓤 H 𝓜 (tables 𝓤 H 𝓜 𝓡 code.env))
-    (cited 𝓤 H (Search 𝓤 H (𝓖 .A) (𝓜 .mem) (𝓡 .run)) 𝓜 𝓡 code.env #lookups·search search-def.routine code.calls-lookups·search (search-thm.met 𝓤 H 𝓜 𝓖 𝓡))
-    (cited 𝓤 H (Gather 𝓤 H (𝓖 .A) (𝓜 .mem) (𝓡 .run)) 𝓜 𝓡 code.env #lookups·gather gather-def.routine code.calls-lookups·gather (gather-thm.met 𝓤 H 𝓜 𝓖 𝓡))
+    (cited 𝓤 H (Search 𝓤 H (𝓖 .A) (𝓜 .mem) (𝓡 .run)) 𝓜 𝓡 code.env #finding·search search-def.routine code.calls-finding·search (search-thm.met 𝓤 H 𝓜 𝓖 𝓡))
+    (cited 𝓤 H (Gather 𝓤 H (𝓖 .A) (𝓜 .mem) (𝓡 .run)) 𝓜 𝓡 code.env #finding·gather gather-def.routine code.calls-finding·gather (gather-thm.met 𝓤 H 𝓜 𝓖 𝓡))
     (cited 𝓤 H (Listed 𝓤 H (𝓖 .A) (𝓜 .mem) (𝓡 .run)) 𝓜 𝓡 code.env #lookups·look-up-list listed-def.routine code.calls-lookups·look-up-list (listed-thm.met 𝓤 H 𝓜 𝓖 𝓡)))

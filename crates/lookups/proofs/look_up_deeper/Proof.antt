@@ -101,14 +101,13 @@ same-length c = search needs
 
 returns-4 : tie.Need-returns-4
 returns-4 c =
-    let e = c .before in
-    let d = e .before in
+    let d = c .before in
     let s = d .before .before .before .before .before in
     let a = s .args in
     let room = length (a .out .now) in
     let x = getD (a .t1) (a .at) past .number .0 in
-    answered-gives (fitting room (candidate (keyOf (a .k)) (files s))) (a .out .now) (x ∷ []) 1 (set (a .out .now) 0 x) (ap (fitting room) (one d) ∙ fitting-gives room (x ∷ []) (e .if3 .left)) refl
-    (sym (put-nil (set (a .out .now) 0 x) 1) ∙ put-cons (a .out .now) 0 x [] (e .if3 .left))
+    answered-gives (fitting room (candidate (keyOf (a .k)) (files s))) (a .out .now) (x ∷ []) 1 (set (a .out .now) 0 x) (ap (fitting room) (one d) ∙ fitting-gives room (x ∷ []) (c .if3 .left)) refl
+    (sym (put-nil (set (a .out .now) 0 x) 1) ∙ put-cons (a .out .now) 0 x [] (c .if3 .left))
 
 pub look-up-deeper-spec : {M : Type 1} → statement M
 look-up-deeper-spec =

@@ -49,25 +49,26 @@ use Rattle.records.specs.Record.{fileOf}
 use Rattle.records.specs.RecordLaws.{past}
 use Rattle.records.specs.declared.FileRecord.{FileRecord}
 use Rattle.lookups.specs.declared.Candidate.{Candidate}
-use Rattle.lookups.specs.Lookup.{halved, candidateOf, Deep}
+use Rattle.finding.specs.Finding.{halved, Deep}
+use Rattle.lookups.specs.Lookup.{candidateOf}
 use Rattle.lookups.specs.LookupLaws.{candidate-at, candidate-past}
-use Rattle.lookups.specs.SearchLaws.{halved-passed}
+use Rattle.finding.specs.SearchLaws.{halved-passed}
 use Rattle.records.proofs.FileRecord as T
 use Rattle.records.proofs.FileRecord.Laws as T′
 use Rattle.lookups.proofs.Candidate as E
 use Rattle.lookups.proofs.Candidate.Laws as E′
 use Rattle.keys.proofs.Key as K
 use Rattle.keys.proofs.Key.Laws as K′
-use Rattle.lookups.proofs.Reading.{R, lentAt, Own, Nth, to-nth, goes-nth, said-nth}
-use Rattle.lookups.proofs.Calling.{machK, Search, to-search, goes-search, said-search}
-use Rattle.lookups.proofs.search as searching
-use Rattle.lookups.proofs.search.Symbol as search-def
-use Rattle.lookups.proofs.search.Symbol.{name as #lookups·search}
-use Rattle.lookups.proofs.search.Met as search-thm
-use Rattle.lookups.proofs.nth as nth
-use Rattle.lookups.proofs.nth.Symbol as nth-def
-use Rattle.lookups.proofs.nth.Symbol.{name as #lookups·nth}
-use Rattle.lookups.proofs.nth.Met as nth-thm
+use Rattle.finding.proofs.Reading.{R, lentAt, Own, Nth, to-nth, goes-nth, said-nth}
+use Rattle.finding.proofs.Calling.{machK, Search, to-search, goes-search, said-search}
+use Rattle.finding.proofs.search as searching
+use Rattle.finding.proofs.search.Symbol as search-def
+use Rattle.finding.proofs.search.Symbol.{name as #finding·search}
+use Rattle.finding.proofs.search.Met as search-thm
+use Rattle.finding.proofs.nth as nth
+use Rattle.finding.proofs.nth.Symbol as nth-def
+use Rattle.finding.proofs.nth.Symbol.{name as #finding·nth}
+use Rattle.finding.proofs.nth.Met as nth-thm
 use Rattle.lookups.proofs.chosen as chosen
 use Rattle.lookups.proofs.chosen.Symbol as chosen-def
 use Rattle.lookups.proofs.chosen.Symbol.{name as #lookups·chosen}
@@ -152,7 +153,7 @@ module _ {M : Type 1} (𝓤 : URA M) (H : Heap 𝓤) (A : Atoms 𝓤) (W : Given
   said-none : (r : Candidate) → ent 𝓤 (ensured 𝓤 H A nobody.ended (nobody.clauses 𝓤 H A at-mem run) tt tt tt r) (fact 𝓤 (candidateOf r ≡ []))
   said-none r = exE 𝓤 _ (λ ws. snd∗ 𝓤 (sem 𝓤 H A (lasts nobody.ended tt tt ws)) (fact 𝓤 (candidateOf r ≡ [])))
 
-  module _ (C : Calls 𝓤 H) (Λ : Loops 𝓤 H) (fm : FmC 𝓤 H (W .laws) C) (known-search : Triple 𝓤 (C #lookups·search) (Search 𝓤 H A at-mem run)) (known-nth : Triple 𝓤 (C #lookups·nth) (Nth 𝓤 H A at-mem run)) (known-chosen : Triple 𝓤 (C #lookups·chosen) (Chosen 𝓤 H A at-mem run)) (known-none : Triple 𝓤 (C #lookups·nobody) (None 𝓤 H A at-mem run)) where
+  module _ (C : Calls 𝓤 H) (Λ : Loops 𝓤 H) (fm : FmC 𝓤 H (W .laws) C) (known-search : Triple 𝓤 (C #finding·search) (Search 𝓤 H A at-mem run)) (known-nth : Triple 𝓤 (C #finding·nth) (Nth 𝓤 H A at-mem run)) (known-chosen : Triple 𝓤 (C #lookups·chosen) (Chosen 𝓤 H A at-mem run)) (known-none : Triple 𝓤 (C #lookups·nobody) (None 𝓤 H A at-mem run)) where
     -- from where the search has ended
     module _ (room : Room R (length ys)) (m : ℕ) (m-fits : m < 2 ^ 64) (ended : m ≡ passed (keyOf k) (map fileOf ys)) (l₀ l₁ l₂ l₃ l₄ l₅ l₆ : ℕ) where
       abbrev En : Env 𝓤 H
@@ -206,7 +207,7 @@ module _ {M : Type 1} (𝓤 : URA M) (H : Heap 𝓤) (A : Atoms 𝓤) (W : Given
         land ! (from ! (stop !)) (init ! 10 refl (uint-lawful 𝓤 H A W w64 .typed m _ is₁ .0)) $ rewrite ! 10 (λ (u : Val). ‵ (fat fullShare word l₃ 0 u)) (ap only (is₁ .0)) refl $ drop ! $
         keep ! (0 ∷ 1 ∷ 3 ∷ 4 ∷ 5 ∷ 6 ∷ 7 ∷ 8 ∷ 9 ∷ 10 ∷ 11 ∷ 12 ∷ 13 ∷ 14 ∷ 15 ∷ 16 ∷ []) $ decides room m (is₁ .1) (e₁ ∙ halved-passed (keyOf k) ys deep) l₀ l₁ l₂ l₃ l₄ l₅ l₆)))))))))))
 
-module _ {M : Type 1} (𝓤 : URA M) (H : Heap 𝓤) (A : Atoms 𝓤) (W : Given 𝓤 H A) (at-mem : Memory → SProp 𝓤) (run : Routine → Fun 𝓤) (𝓣 : Tables 𝓤 H) (known-search : Triple 𝓤 (𝓣 .C #lookups·search) (Search 𝓤 H A at-mem run)) (known-nth : Triple 𝓤 (𝓣 .C #lookups·nth) (Nth 𝓤 H A at-mem run)) (known-chosen : Triple 𝓤 (𝓣 .C #lookups·chosen) (Chosen 𝓤 H A at-mem run)) (known-none : Triple 𝓤 (𝓣 .C #lookups·nobody) (None 𝓤 H A at-mem run)) where
+module _ {M : Type 1} (𝓤 : URA M) (H : Heap 𝓤) (A : Atoms 𝓤) (W : Given 𝓤 H A) (at-mem : Memory → SProp 𝓤) (run : Routine → Fun 𝓤) (𝓣 : Tables 𝓤 H) (known-search : Triple 𝓤 (𝓣 .C #finding·search) (Search 𝓤 H A at-mem run)) (known-nth : Triple 𝓤 (𝓣 .C #finding·nth) (Nth 𝓤 H A at-mem run)) (known-chosen : Triple 𝓤 (𝓣 .C #lookups·chosen) (Chosen 𝓤 H A at-mem run)) (known-none : Triple 𝓤 (𝓣 .C #lookups·nobody) (None 𝓤 H A at-mem run)) where
   looks-walks : Walks 𝓤 H A looks.ended stayed (WpFn 𝓤 H (𝓣 .C) (𝓣 .Λ) code.function) (looks.clauses 𝓤 H A at-mem run)
   looks-walks = walked 𝓤 H A looks.ended stayed (looks.clauses 𝓤 H A at-mem run) (WpFn 𝓤 H (𝓣 .C) (𝓣 .Λ) code.function)
       (λ κs. (slice-vals, (LL.vals K.the-type K′.the-laws, tt))) (λ κs. (shr-slice-tells (named 0) (κs .0) R, (LL.tells K.the-type K′.the-laws, tt)))
@@ -224,7 +225,7 @@ look-up-in-level-spec 𝓤 H 𝓜 𝓖 𝓡 =
     entered 𝓤 H (tripleOf 𝓤 H (𝓖 .A) looks.signature (looks.spec 𝓤 H (𝓖 .A) (𝓜 .mem) (𝓡 .run)))
     (tables 𝓤 H 𝓜 𝓡 code.env .C) (tables 𝓤 H 𝓜 𝓡 code.env .Λ) #lookups·look-up-in-level code.function (code.unfolded 𝓤 H 𝓜 𝓡)
     (looks-meets 𝓤 H (𝓖 .A) (givenOf 𝓤 H 𝓜 𝓖) (𝓜 .mem) (𝓡 .run) (tablesOf 𝓤 H 𝓜 (tables 𝓤 H 𝓜 𝓡 code.env))
-    (cited 𝓤 H (Search 𝓤 H (𝓖 .A) (𝓜 .mem) (𝓡 .run)) 𝓜 𝓡 code.env #lookups·search search-def.routine code.calls-lookups·search (search-thm.met 𝓤 H 𝓜 𝓖 𝓡))
-    (cited 𝓤 H (Nth 𝓤 H (𝓖 .A) (𝓜 .mem) (𝓡 .run)) 𝓜 𝓡 code.env #lookups·nth nth-def.routine code.calls-lookups·nth (nth-thm.met 𝓤 H 𝓜 𝓖 𝓡))
+    (cited 𝓤 H (Search 𝓤 H (𝓖 .A) (𝓜 .mem) (𝓡 .run)) 𝓜 𝓡 code.env #finding·search search-def.routine code.calls-finding·search (search-thm.met 𝓤 H 𝓜 𝓖 𝓡))
+    (cited 𝓤 H (Nth 𝓤 H (𝓖 .A) (𝓜 .mem) (𝓡 .run)) 𝓜 𝓡 code.env #finding·nth nth-def.routine code.calls-finding·nth (nth-thm.met 𝓤 H 𝓜 𝓖 𝓡))
     (cited 𝓤 H (Chosen 𝓤 H (𝓖 .A) (𝓜 .mem) (𝓡 .run)) 𝓜 𝓡 code.env #lookups·chosen chosen-def.routine code.calls-lookups·chosen (chosen-thm.met 𝓤 H 𝓜 𝓖 𝓡))
     (cited 𝓤 H (None 𝓤 H (𝓖 .A) (𝓜 .mem) (𝓡 .run)) 𝓜 𝓡 code.env #lookups·nobody nobody-def.routine code.calls-lookups·nobody (nobody-thm.met 𝓤 H 𝓜 𝓖 𝓡)))

@@ -15,7 +15,8 @@ use Rattle.records.specs.Run.{run}
 use Rattle.lists.specs.List.{wellList, filesOf, onList}
 use Rattle.lists.specs.ListLaws.{files-run, well-room}
 use Rattle.lookups.specs.Lookup.{fitting}
-use Rattle.lookups.specs.LookupLaws.{look-beyond, look-bad, look-key, look-good, lookup-first, lookup-deeper, well-passed, answered-refused, answered-as}
+use Rattle.finding.specs.FindingLaws.{well-passed}
+use Rattle.lookups.specs.LookupLaws.{look-beyond, look-bad, look-key, look-good, lookup-first, lookup-deeper, answered-refused, answered-as}
 use Rattle.lookups.proofs.look_up_list.Statement.{statement}
 use Rattle.lookups.proofs.look_up_list.Tie as tie
 

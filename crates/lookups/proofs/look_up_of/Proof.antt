@@ -50,7 +50,7 @@ use Rattle.keys.specs.Key.{keyOf}
 use Rattle.keys.specs.declared.Key.{Key}
 use Rattle.records.specs.declared.FileRecord.{FileRecord}
 use Rattle.answers.specs.declared.Counted.{Counted}
-use Rattle.lookups.specs.Lookup.{onLent}
+use Rattle.finding.specs.Finding.{onLent}
 use Rattle.lookups.specs.LookupLaws.{Answered}
 use Rattle.records.proofs.FileRecord as T
 use Rattle.records.proofs.FileRecord.Laws as T′
@@ -58,9 +58,9 @@ use Rattle.keys.proofs.Key as K
 use Rattle.keys.proofs.Key.Laws as K′
 use Rattle.answers.proofs.Counted as E
 use Rattle.answers.proofs.Counted.Laws as E′
-use Rattle.lookups.proofs.Reading.{R}
-use Rattle.lookups.proofs.Calling.{machK}
-use Rattle.lookups.proofs.Lending.{AR, vals, vA, tyA, sliceE, First, Second, opened, closed}
+use Rattle.finding.proofs.Reading.{R}
+use Rattle.finding.proofs.Calling.{machK}
+use Rattle.finding.proofs.Lending.{AR, vals, vA, tyA, sliceE, First, Second, opened, closed}
 use Rattle.lookups.proofs.look_up as callee
 use Rattle.lookups.proofs.look_up.Symbol as callee-def
 use Rattle.lookups.proofs.look_up.Symbol.{name as #lookups·look-up}

@@ -11,7 +11,7 @@ user-key-is-before-requires c κs = search needs
 
 returns : tie.Need-returns
 returns c =
-    let t = c .before .before in
+    let t = c .before in
     let a = t .before .args in
     c .user-key-is-before .ensures ∙ sym (before-asked (a .m) (userOf (a .u)) (t .if1 .taken))
 

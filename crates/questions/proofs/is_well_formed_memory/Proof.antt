@@ -12,7 +12,7 @@ is-sound-user-requires c κs = search needs
 returns : tie.Need-returns
 returns c =
     let s = c .before in
-    sym (memory-unsound (s .before .before .args .m) (sym (s .is-sound-user .ensures) ∙ not-true (s .is-sound-user .result) (c .if1 .taken)))
+    sym (memory-unsound (s .before .args .m) (sym (s .is-sound-user .ensures) ∙ not-true (s .is-sound-user .result) (c .if1 .taken)))
 
 is-good-user-requires : tie.Need-is-good-user-requires
 is-good-user-requires c κs = search needs
@@ -22,14 +22,14 @@ returns-2 c =
     let e = c .before .before in
     let s = e .before in
     let t = sym (s .is-sound-user .ensures) ∙ not-false (s .is-sound-user .result) (e .if1 .left) in
-    c .is-good-user .ensures ∙ sym (memory-some (s .before .before .args .m) t (c .before .if2 .taken))
+    c .is-good-user .ensures ∙ sym (memory-some (s .before .args .m) t (c .before .if2 .taken))
 
 returns-3 : tie.Need-returns-3
 returns-3 c =
     let e = c .before .before in
     let s = e .before in
     let t = sym (s .is-sound-user .ensures) ∙ not-false (s .is-sound-user .result) (e .if1 .left) in
-    sym (memory-none (s .before .before .args .m) t (c .before .if2 .left))
+    sym (memory-none (s .before .args .m) t (c .before .if2 .left))
 
 pub is-well-formed-memory-spec : {M : Type 1} → statement M
 is-well-formed-memory-spec =

@@ -30,11 +30,11 @@ abbrev μ-loop : tie.MeasureT-loop
 loop-holds : tie.Need-loop-holds Inv-loop μ-loop
 loop-holds c = (omega arith, omega arith, omega arith)
 
-mul-f : tie.Need-mul-f Inv-loop μ-loop
-mul-f c = omega arith
+mul-sum : tie.Need-mul-sum Inv-loop μ-loop
+mul-sum c = omega arith
 
-array-copy-out-f : tie.Need-array-copy-out-f Inv-loop μ-loop
-array-copy-out-f c = omega arith
+element-copy-out-sum : tie.Need-element-copy-out-sum Inv-loop μ-loop
+element-copy-out-sum c = omega arith
 
 -- the record at i: its keys are within their room
 short : (c : tie.In-loop Inv-loop μ-loop) → let r = getD (c .before .before .args .t1) (c .before .loop .i) past in (r .smallest .len ≤ 40) × (r .largest .len ≤ 40)
@@ -72,17 +72,23 @@ written c =
 
 add-sum : tie.Need-add-sum Inv-loop μ-loop
 add-sum c =
-    let s = short (c .before .before .before .before) in
+    let s = short c in
     omega arith
+
+mul-sum-2 : tie.Need-mul-sum-2 Inv-loop μ-loop
+mul-sum-2 c = omega arith
+
+element-copy-out-sum-2 : tie.Need-element-copy-out-sum-2 Inv-loop μ-loop
+element-copy-out-sum-2 c = omega arith
 
 add-sum-2 : tie.Need-add-sum-2 Inv-loop μ-loop
 add-sum-2 c =
-    let s = short (c .before .before .before .before .before) in
+    let s = short c in
     omega arith
 
 add-sum-3 : tie.Need-add-sum-3 Inv-loop μ-loop
 add-sum-3 c =
-    let s = short (c .before .before .before .before .before) in
+    let s = short c in
     omega arith
 
 add-i : tie.Need-add-i Inv-loop μ-loop
@@ -93,12 +99,11 @@ loop-less c = omega arith
 
 loop-again : tie.Need-loop-again Inv-loop μ-loop
 loop-again c =
-    let t = c .before .before .before .before .before in
-    let s = short t in
-    let l = t .before in
+    let s = short c in
+    let l = c .before in
     let a = l .before .args in
     let i = l .loop .i in
-    let here = written t in
+    let here = written c in
     (omega arith, omega arith, omega (arith, here))
 
 returns : tie.Need-returns Inv-loop μ-loop
@@ -115,9 +120,11 @@ files-length-spec =
     Inv-loop
     μ-loop
     loop-holds
-    mul-f
-    array-copy-out-f
+    mul-sum
+    element-copy-out-sum
     add-sum
+    mul-sum-2
+    element-copy-out-sum-2
     add-sum-2
     add-sum-3
     add-i

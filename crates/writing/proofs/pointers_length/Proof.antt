@@ -30,11 +30,11 @@ abbrev μ-loop : tie.MeasureT-loop
 loop-holds : tie.Need-loop-holds Inv-loop μ-loop
 loop-holds c = (omega arith, omega arith, omega arith)
 
-mul-p : tie.Need-mul-p Inv-loop μ-loop
-mul-p c = omega arith
+mul-if1 : tie.Need-mul-if1 Inv-loop μ-loop
+mul-if1 c = omega arith
 
-array-copy-out-p : tie.Need-array-copy-out-p Inv-loop μ-loop
-array-copy-out-p c = omega arith
+element-copy-out-if1 : tie.Need-element-copy-out-if1 Inv-loop μ-loop
+element-copy-out-if1 c = omega arith
 
 -- the pointer at i: its key is within its room
 short : (c : tie.In-loop Inv-loop μ-loop) → getD (c .before .before .args .t1) (c .before .loop .i) past .key .len ≤ 40
@@ -62,14 +62,20 @@ written c t =
       key-long (p .key) room (short c),
     )
 
+mul-sum : tie.Need-mul-sum Inv-loop μ-loop
+mul-sum c = omega arith
+
+element-copy-out-sum : tie.Need-element-copy-out-sum Inv-loop μ-loop
+element-copy-out-sum c = omega arith
+
 add-sum : tie.Need-add-sum Inv-loop μ-loop
 add-sum c =
-    let s = short (c .before .before .before .before) in
+    let s = short (c .before) in
     omega arith
 
 add-sum-2 : tie.Need-add-sum-2 Inv-loop μ-loop
 add-sum-2 c =
-    let s = short (c .before .before .before .before) in
+    let s = short (c .before) in
     omega arith
 
 add-i : tie.Need-add-i Inv-loop μ-loop
@@ -80,7 +86,7 @@ loop-less c = omega arith
 
 loop-again : tie.Need-loop-again Inv-loop μ-loop
 loop-again c =
-    let t = c .before .before in
+    let t = c .before in
     let s = short t in
     let l = t .before in
     let ps = l .before .args .t1 in
@@ -105,8 +111,10 @@ pointers-length-spec =
     Inv-loop
     μ-loop
     loop-holds
-    mul-p
-    array-copy-out-p
+    mul-if1
+    element-copy-out-if1
+    mul-sum
+    element-copy-out-sum
     add-sum
     add-sum-2
     add-i

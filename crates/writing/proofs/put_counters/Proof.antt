@@ -55,7 +55,7 @@ returns c =
     let p₃ = p₄ .before .before .before .before in
     let p₂ = p₃ .before .before .before .before in
     let p₁ = p₂ .before .before .before .before in
-    let s = p₁ .before .before .before .before .before .before .before .before in
+    let s = p₁ .before .before .before in
     let a = s .args in (
       refl,
       counters-laid (a .out .now) (p₁ .put-number .last .0) (p₂ .put-number2 .last .0) (p₃ .put-number3 .last .0) (p₄ .put-number4 .last .0) (p₅ .put-number5 .last .0) (p₆ .put-number6 .last .0) (a .at)

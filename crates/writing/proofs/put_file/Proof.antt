@@ -18,33 +18,33 @@ long s = writeFile-parts (fileOf (s .args .f))
 
 put-number-requires : tie.Need-put-number-requires
 put-number-requires c κs =
-    let n = long (c .before .before .before) in
+    let n = long (c .before .before) in
     omega arith
 
 add-put-number : tie.Need-add-put-number
 add-put-number c =
-    let n = long (c .before .before .before .before .before .before .before) in
+    let n = long (c .before .before .before .before .before .before) in
     omega arith
 
 put-number-requires-2 : tie.Need-put-number-requires-2
 put-number-requires-2 c κs =
-    let n = long (c .before .before .before .before .before .before .before) in
+    let n = long (c .before .before .before .before .before .before) in
     omega arith
 
 add-put-key : tie.Need-add-put-key
 add-put-key c =
-    let n = long (c .before .before .before .before .before .before .before .before .before .before .before .before) in
+    let n = long (c .before .before .before .before .before .before .before .before .before .before) in
     omega arith
 
 put-key-requires : tie.Need-put-key-requires
 put-key-requires c κs =
-    let s = c .before .before .before .before .before .before .before .before .before .before .before .before in
+    let s = c .before .before .before .before .before .before .before .before .before .before in
     let n = long s in
     (record-short (s .args .f) (s .pre .0) .0, omega arith)
 
 put-key-requires-2 : tie.Need-put-key-requires-2
 put-key-requires-2 c κs =
-    let s = c .before .before .before .before .before .before .before .before .before .before .before .before .before .before .before .before .before in
+    let s = c .before .before .before .before .before .before .before .before .before .before .before .before .before .before in
     let n = long s in
     (record-short (s .args .f) (s .pre .0) .1, omega arith)
 
@@ -55,10 +55,10 @@ returns : tie.Need-returns
 unfolding fileOf
 returns c =
     let k₂ = c .before .before in
-    let k₁ = k₂ .before .before .before .before .before in
-    let p₂ = k₁ .before .before .before .before .before in
+    let k₁ = k₂ .before .before .before .before in
+    let p₂ = k₁ .before .before .before .before in
     let p₁ = p₂ .before .before .before .before in
-    let s = p₁ .before .before .before .before in
+    let s = p₁ .before .before .before in
     let a = s .args in
     let n = long s in
     let e₁ = k₁ .put-key .ensures in

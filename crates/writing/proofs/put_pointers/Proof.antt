@@ -94,15 +94,15 @@ put-number-requires-2 c κs =
 
 add-put-key : tie.Need-add-put-key Inv-loop μ-loop
 add-put-key c =
-    let i = c .before .before .before .before .before .before .before .before in
-    let h = here i (c .before .before .before .before .before .before .if1 .taken) in
+    let i = c .before .before .before .before .before .before .before in
+    let h = here i (c .before .before .before .before .before .if1 .taken) in
     let r = room (i .before .before .before .before .before .before .before .before) in
     omega arith
 
 put-key-requires : tie.Need-put-key-requires Inv-loop μ-loop
 put-key-requires c κs =
-    let i = c .before .before .before .before .before .before .before .before in
-    let h = here i (c .before .before .before .before .before .before .if1 .taken) in
+    let i = c .before .before .before .before .before .before .before in
+    let h = here i (c .before .before .before .before .before .if1 .taken) in
     let r = room (i .before .before .before .before .before .before .before .before) in
     (short i, omega arith)
 
@@ -128,10 +128,10 @@ loop-again c =
     let h = here t (w .0 .taken) in
     let f = ap (map writeEntry) (set-here ps i (omega arith) (w .0 .taken)) in
     let parts = writeEntry-parts e in
-    let k = w .7 .ensures in
+    let k = w .6 .ensures in
     let next : c .if1 .next ≡ l .loop .next + length (writeEntry e) = omega arith in
     let laid : c .if1 .out ≡ put (l .loop .out) (l .loop .next) (writeEntry e) =
-    w .10 ∙ entry-laid e (l .loop .out) (w .2 .last .0) (w .7 .last .0) (l .loop .next) (omega arith) (w .2 .ensures) (k .1) in (
+    w .9 ∙ entry-laid e (l .loop .out) (w .2 .last .0) (w .6 .last .0) (l .loop .next) (omega arith) (w .2 .ensures) (k .1) in (
       omega arith,
       ap length laid ∙ length-put (l .loop .out) (l .loop .next) (writeEntry e) (omega arith) ∙ l .loop .inv .1,
       omega arith,

@@ -50,23 +50,23 @@ returns-2 c =
 
 put-counters-requires : tie.Need-put-counters-requires
 put-counters-requires c κs =
-    let e = c .before .before .before .before .before .before .before in
+    let e = c .before .before .before .before .before .before in
     let size = parts e in
     omega arith
 
 put-pointers-requires : tie.Need-put-pointers-requires
 put-pointers-requires c κs =
-    let e = c .before .before .before .before .before .before .before .before .before .before .before in
+    let e = c .before .before .before .before .before .before .before .before .before .before in
     let s = e .before .before .before in
     let size = parts e in
     (store-pointers (s .args .s) (shape (s .args .s) _ (s .good .0) .pointers) (well e), omega arith)
 
 put-levels-requires : tie.Need-put-levels-requires
 put-levels-requires c κs =
-    let e = c .before .before .before .before .before .before .before .before .before .before .before .before .before .before .before in
+    let e = c .before .before .before .before .before .before .before .before .before .before .before .before .before .before in
     let s = e .before .before .before in
     let size = parts e in
-    (store-levels (s .args .s) (shape (s .args .s) _ (s .good .0) .pointers) (well e), omega (arith, c .before .before .before .before .before .before .before .before .before .before .before .before .before .if2 .left, c .before .before .before .before .before .before .before .before .before .before .before .before .before .before .snapshot-length .ensures))
+    (store-levels (s .args .s) (shape (s .args .s) _ (s .good .0) .pointers) (well e), omega (arith, c .before .before .before .before .before .before .before .before .before .before .before .before .if2 .left, c .before .before .before .before .before .before .before .before .before .before .before .before .before .snapshot-length .ensures))
 
 same-length : tie.Need-same-length
 same-length c = search needs
@@ -76,12 +76,12 @@ returns-3 c =
     let p₃ = c .before .before in
     let p₂ = p₃ .before .before .before .before in
     let p₁ = p₂ .before .before .before .before in
-    let m = p₁ .before .before .before .before .before .before .before in
+    let m = p₁ .before .before .before .before .before .before in
     let e = m .before in
     let s = e .before .before .before in
     let a = s .args in
     let out = a .out .now in
-    let fits : length (encode (stateOf (a .s))) ≤ length out = omega (arith, c .before .before .before .before .before .before .before .before .before .before .before .before .before .before .before .before .if2 .left, m .snapshot-length .ensures) in
+    let fits : length (encode (stateOf (a .s))) ≤ length out = omega (arith, c .before .before .before .before .before .before .before .before .before .before .before .before .before .before .before .if2 .left, m .snapshot-length .ensures) in
     let laid = encode-laid (a .s) (shape (a .s) _ (s .good .0) .counts) out (p₁ .put-counters .last .0) (p₂ .put-pointers .last .0) (p₃ .put-levels .last .0) (p₁ .put-counters .result) (p₂ .put-pointers .result)
     fits (p₁ .put-counters .ensures .1) (p₁ .put-counters .ensures .0) (p₂ .put-pointers .ensures .1) (p₂ .put-pointers .ensures .0) (p₃ .put-levels .ensures .1) in
     said-gives (snapshotOf (a .s) (length out)) (encode (stateOf (a .s))) out (p₃ .put-levels .last .0) (m .snapshot-length .result) (written-well (a .s) (length out) (well e) fits) (m .snapshot-length .ensures) laid

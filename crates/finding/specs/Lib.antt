@@ -1,0 +1,4 @@
+pub mod Finding
+pub mod FindingLaws
+pub mod GatherLaws
+pub mod SearchLaws
