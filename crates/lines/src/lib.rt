@@ -1,9 +1,17 @@
 // Answer lines, built in lent bytes from a place on. Each function answers the place after what it wrote; what has no room is left out.
+ghost use mathlib.Core.Path.{_≡_};
+ghost use mathlib.Core.List.{[], _∷_};
+ghost use Prim.Native.Nat.{_<_};
+ghost use Rattle.io.specs.Digits.{glyph};
+ghost use Rattle.keys.specs.Key.{keyOf, userOf};
+ghost use Rattle.lines.specs.Lines.{Laid, decimal, bit, bits, hexText, refusedText};
 use keys::Key;
 use keys::UserKey;
 
 // One byte.
-pub fn put_byte(out: &mut [u8], at: usize, b: u8) -> usize {
+pub fn put_byte(out: &mut [u8], at: usize, b: u8) -> usize
+    ensures { λ r. ⌜ Laid (now (out .entry)) at (b ∷ []) (now (out .exit)) r ⌝ }
+{
     if at < out.len() {
         out[at] = b;
         return at + 1;
@@ -12,7 +20,9 @@ pub fn put_byte(out: &mut [u8], at: usize, b: u8) -> usize {
 }
 
 // A text.
-pub fn put(out: &mut [u8], at: usize, text: &[u8]) -> usize {
+pub fn put(out: &mut [u8], at: usize, text: &[u8]) -> usize
+    ensures { λ r. ⌜ Laid (now (out .entry)) at (now (text .entry)) (now (out .exit)) r ⌝ }
+{
     let mut to = at;
     let mut i: usize = 0;
     while i < text.len() {
@@ -23,19 +33,25 @@ pub fn put(out: &mut [u8], at: usize, text: &[u8]) -> usize {
 }
 
 // A number in decimal.
-pub fn put_number(out: &mut [u8], at: usize, n: u64) -> usize {
+pub fn put_number(out: &mut [u8], at: usize, n: u64) -> usize
+    ensures { λ r. ⌜ Laid (now (out .entry)) at (decimal n) (now (out .exit)) r ⌝ }
+{
     let mut digits = [0u8; 20];
     let length = io::decimal(n, &mut digits);
     put(out, at, &digits[..length])
 }
 
 // A place or a count in decimal.
-pub fn put_count(out: &mut [u8], at: usize, n: usize) -> usize {
+pub fn put_count(out: &mut [u8], at: usize, n: usize) -> usize
+    ensures { λ r. ⌜ Laid (now (out .entry)) at (decimal n) (now (out .exit)) r ⌝ }
+{
     put_number(out, at, n as u64)
 }
 
 // 0 or 1.
-pub fn put_bit(out: &mut [u8], at: usize, b: bool) -> usize {
+pub fn put_bit(out: &mut [u8], at: usize, b: bool) -> usize
+    ensures { λ r. ⌜ Laid (now (out .entry)) at (bit b) (now (out .exit)) r ⌝ }
+{
     if b {
         return put_byte(out, at, b'1');
     }
@@ -43,7 +59,9 @@ pub fn put_bit(out: &mut [u8], at: usize, b: bool) -> usize {
 }
 
 // A digit of hex.
-fn hex_digit(x: u8) -> u8 {
+fn hex_digit(x: u8) -> u8
+    ensures { λ r. ⌜ (x < 16 → r ≡ glyph x) ⌝ }
+{
     if x < 10 {
         return b'0' + x;
     }
@@ -54,7 +72,9 @@ fn hex_digit(x: u8) -> u8 {
 }
 
 // Bytes in hex, `-` for none.
-pub fn put_hex(out: &mut [u8], at: usize, bytes: &[u8]) -> usize {
+pub fn put_hex(out: &mut [u8], at: usize, bytes: &[u8]) -> usize
+    ensures { λ r. ⌜ Laid (now (out .entry)) at (hexText (now (bytes .entry))) (now (out .exit)) r ⌝ }
+{
     if bytes.len() == 0 {
         return put_byte(out, at, b'-');
     }
@@ -70,14 +90,18 @@ pub fn put_hex(out: &mut [u8], at: usize, bytes: &[u8]) -> usize {
 }
 
 // The sixteen hex digits of a number.
-pub fn put_bits(out: &mut [u8], at: usize, n: u64) -> usize {
+pub fn put_bits(out: &mut [u8], at: usize, n: u64) -> usize
+    ensures { λ r. ⌜ Laid (now (out .entry)) at (bits n) (now (out .exit)) r ⌝ }
+{
     let mut digits = [0u8; 16];
     let length = io::hex(n, 16, &mut digits);
     put(out, at, &digits[..length])
 }
 
 // The bytes of a key in hex; a key whose length is beyond its room has none.
-pub fn put_key(out: &mut [u8], at: usize, k: Key) -> usize {
+pub fn put_key(out: &mut [u8], at: usize, k: Key) -> usize
+    ensures { λ r. ⌜ Laid (now (out .entry)) at (hexText (keyOf k)) (now (out .exit)) r ⌝ }
+{
     let n = k.len;
     if Key::ROOM < n {
         return put_byte(out, at, b'-');
@@ -87,7 +111,9 @@ pub fn put_key(out: &mut [u8], at: usize, k: Key) -> usize {
 }
 
 // The bytes of a user key in hex.
-pub fn put_user_key(out: &mut [u8], at: usize, u: UserKey) -> usize {
+pub fn put_user_key(out: &mut [u8], at: usize, u: UserKey) -> usize
+    ensures { λ r. ⌜ Laid (now (out .entry)) at (hexText (userOf u)) (now (out .exit)) r ⌝ }
+{
     let n = u.len;
     if UserKey::ROOM < n {
         return put_byte(out, at, b'-');
@@ -97,7 +123,9 @@ pub fn put_user_key(out: &mut [u8], at: usize, u: UserKey) -> usize {
 }
 
 // `refused` and the number.
-pub fn put_refused(out: &mut [u8], at: usize, n: u8) -> usize {
+pub fn put_refused(out: &mut [u8], at: usize, n: u8) -> usize
+    ensures { λ r. ⌜ Laid (now (out .entry)) at (refusedText n) (now (out .exit)) r ⌝ }
+{
     let to = put(out, at, b"refused ");
     put_number(out, to, n as u64)
 }

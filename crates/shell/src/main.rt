@@ -1,142 +1,72 @@
 // shell: reads a script on standard input and prints one answer line for each command.
-use commands::Changed;
-use commands::Kind;
-use picking::Session;
-use picking::Turned;
-use store::Store;
+mod asking;
+mod changes;
+mod commands;
+mod kinds;
+mod machine;
+mod parts;
+mod picking;
+mod replies;
+mod texts;
 
-// The store that a script works on, with its last pick and memories.
-struct Machine {
-    store: Store,
-    session: Session,
-}
+use crate::kinds::Kind;
+use crate::machine::Machine;
+use crate::parts::Parts;
+use crate::replies::Reply;
 
 // The maximum file size before a script names one.
 const MAXIMUM: u64 = 2097152;
 
-// Writes an answer line, which ends at a place.
-fn print(out: &mut [u8], at: usize) {
-    let end = lines::put_byte(out, at, b'\n');
-    if end <= out.len() {
-        io::write_all(1, &out[0..end]);
-    }
-}
-
-// A fresh store with no pick.
-fn fresh(maximum: u64) -> Machine {
-    let s = store::fresh_store();
-    let x = picking::begun(maximum);
-    Machine {
-        store: s,
-        session: x,
-    }
-}
-
-// Answers a line that needs no store.
-fn ask_plain(line: &[u8]) {
-    let mut out = io::large_buffer();
-    let at = commands::answer_plain(line, &mut out);
-    print(&mut out, at);
-}
-
-// Answers a question about the store in one word, or in a word and a level.
-fn ask_short(s: Store, line: &[u8]) {
-    let mut out = io::large_buffer();
-    let at = commands::answer_short(s, line, &mut out);
-    print(&mut out, at);
-}
-
-// Answers a question about keys or files.
-fn ask(s: Store, line: &[u8]) {
-    let mut out = io::large_buffer();
-    let at = asking::answer(s, line, &mut out);
-    print(&mut out, at);
-}
-
-// Answers a line that is no command.
-fn refuse(reason: &[u8]) {
-    let mut out = io::buffer();
-    let at = commands::bad(&mut out, reason);
-    print(&mut out, at);
-}
-
 // Changes the store.
-fn change(m: Machine, line: &[u8]) -> Machine {
-    let mut out = io::large_buffer();
-    let s = m.store;
-    let x = m.session;
-    let c = commands::answer_change(s, line, &mut out);
-    let after = c.store;
-    print(&mut out, c.at);
-    Machine {
-        store: after,
-        session: x,
-    }
-}
-
-// Picks, or asks about the last pick.
-fn pick(m: Machine, line: &[u8]) -> Machine {
-    let mut out = io::large_buffer();
-    let s = m.store;
-    let x = m.session;
-    let t = picking::answer(x, s, line, &mut out);
-    let after = t.store;
-    let session = t.session;
-    print(&mut out, t.at);
-    Machine {
-        store: after,
-        session: session,
-    }
+fn change(m: Machine, line: &[u8], w: Parts) -> Machine {
+    let s = changes::answer(m.store, line, w);
+    let mut after = m;
+    after.store = s;
+    after
 }
 
 // The maximum file size that picks take from here on.
-fn set_maximum(m: Machine, line: &[u8]) -> Machine {
-    let n = commands::second_number(line);
+fn set_maximum(m: Machine, line: &[u8], w: Parts) -> Machine {
+    let n = parts::number(line, w, 1);
     if !n.fine {
-        refuse(b"number");
+        replies::refuse(texts::NUMBER);
         return m;
     }
-    let mut x = m.session;
-    let s = m.store;
-    x.maximum = n.value;
-    io::write_all(1, b"ok\n");
-    Machine {
-        store: s,
-        session: x,
-    }
+    let mut after = m;
+    after.maximum = n.value;
+    replies::tell(Reply::Text(texts::OK));
+    after
 }
 
 // A fresh store, the maximum file size as it was.
-fn renew(m: Machine) -> Machine {
-    let x = m.session;
-    io::write_all(1, b"ok\n");
-    fresh(x.maximum)
+fn renew(maximum: u64) -> Machine {
+    replies::tell(Reply::Text(texts::OK));
+    machine::fresh(maximum)
 }
 
 // Answers one command.
-fn answer(m: Machine, line: &[u8]) -> Machine {
-    let k = commands::kind_of(line);
+fn answer(m: Machine, line: &[u8], w: Parts) -> Machine {
+    let k = kinds::kind_of(w.name, w.count);
     match k {
-        Kind::Changes => change(m, line),
-        Kind::Picks => pick(m, line),
-        Kind::New => renew(m),
-        Kind::Maximum => set_maximum(m, line),
+        Kind::Changes => change(m, line, w),
+        Kind::Picks => picking::answer(m, line, w),
+        Kind::Follows => picking::follow(m, line, w),
+        Kind::New => renew(m.maximum),
+        Kind::Maximum => set_maximum(m, line, w),
         Kind::Plain => {
-            ask_plain(line);
+            commands::answer_plain(line, w);
             m
         }
         Kind::Short => {
-            let s = m.store;
-            ask_short(s, line);
+            commands::answer_short(m.store, line, w);
             m
         }
         Kind::Asks => {
-            let s = m.store;
-            ask(s, line);
+            asking::answer(m.store, line, w);
             m
         }
         Kind::Unknown => {
-            refuse(b"command");
+            replies::refuse(texts::COMMAND);
             m
         }
     }
@@ -150,16 +80,21 @@ fn is_silent(line: &[u8]) -> bool {
     line[0] == b'#'
 }
 
+// Answers a line that may be silent.
+fn take(m: Machine, line: &[u8]) -> Machine {
+    if is_silent(line) {
+        return m;
+    }
+    answer(m, line, parts::words_of(line))
+}
+
 // One line of so many bytes; those past the room stand for a line that is too long.
 fn turn(m: Machine, line: &[u8], n: usize) -> Machine {
     if line.len() < n {
-        refuse(b"length");
+        replies::refuse(texts::LENGTH);
         return m;
     }
-    if is_silent(&line[0..n]) {
-        return m;
-    }
-    answer(m, &line[0..n])
+    take(m, &line[0..n])
 }
 
 // One byte more of a line; past the room only the count grows.
@@ -175,7 +110,7 @@ fn push(line: &mut [u8], n: usize, b: u8) -> usize {
 }
 
 fn main() {
-    let mut m = fresh(MAXIMUM);
+    let mut m = machine::fresh(MAXIMUM);
     let mut line = io::large_buffer();
     let mut n: usize = 0;
     let mut block = io::large_buffer();

@@ -1,8 +1,9 @@
--- `lines::put_user_key` is safe and ends. Assumes nothing.
+-- `lines::put_user_key` meets its contract. The bytes that the record holds. Assumes nothing.
 use mathlib.Core.Path.{_≡_}
 use native.Mathlib.Omega.{arith}
 use lib.ListN.{length}
 use borrow.Author.Needs.{needs}
+use Rattle.lines.specs.LineLaws.{user-in, user-out}
 use Rattle.lines.proofs.put_user_key.Statement.{statement}
 use Rattle.lines.proofs.put_user_key.Tie as tie
 
@@ -13,7 +14,7 @@ same-length : tie.Need-same-length
 same-length c = search needs
 
 returns : tie.Need-returns
-returns c = search needs
+returns c = rw (user-out (c .before .before .before .before .before .before .args .u) (c .before .before .before .before .if1 .taken)) (c .before .before .put-byte .ensures)
 
 sub-put-hex : tie.Need-sub-put-hex
 sub-put-hex c = search needs
@@ -34,7 +35,7 @@ same-length-2 : tie.Need-same-length-2
 same-length-2 c = search needs
 
 returns-2 : tie.Need-returns-2
-returns-2 c = search needs
+returns-2 c = rw (user-in (c .before .before .before .before .before .before .before .before .before .args .u) (c .before .before .before .before .before .before .before .if1 .left)) (c .before .before .put-hex .ensures)
 
 pub put-user-key-spec : {M : Type 1} → statement M
 put-user-key-spec =

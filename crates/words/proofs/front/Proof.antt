@@ -1,13 +1,16 @@
--- `words::front` is safe and ends. Assumes nothing.
-use Prim.Native.Nat.{_-_}
-use mathlib.Core.Path.{_≡_}
-use lib.ListN.{length}
+-- `words::front` meets its contract. The loop's invariant: the bytes before i are laid. Assumes nothing.
+use Prim.Native.Nat.{ℕ, suc, _+_, _-_, _*_, _/_, _%_, _≤_, _<_}
+use mathlib.Core.Path.{_≡_, refl, sym, ap, _∙_}
+use mathlib.Core.List.{_++_}
+use native.Mathlib.Omega.{arith}
+use lib.ListN.{length, getD, take, drop, set, length-set}
 use borrow.Author.Needs.{needs}
+use Rattle.words.specs.WordLaws.{front-turn, fill-done}
 use Rattle.words.proofs.front.Statement.{statement}
 use Rattle.words.proofs.front.Tie as tie
 
 abbrev Inv-loop : tie.InvT-loop
-Inv-loop bytes out₀ i₀ out i = length out ≡ 32
+Inv-loop bytes out₀ i₀ out i = (i ≤ 32) × (length out ≡ 32) × (length out₀ ≡ 32) × (length bytes ≡ 40) × (out ≡ take i bytes ++ drop i out₀)
 
 abbrev μ-loop : tie.MeasureT-loop
 μ-loop bytes out₀ i₀ out i = 32 - i
@@ -28,10 +31,14 @@ loop-less : tie.Need-loop-less Inv-loop μ-loop
 loop-less c = search needs
 
 loop-again : tie.Need-loop-again Inv-loop μ-loop
-loop-again c = search needs
+loop-again c =
+    let l = c .before .loop in
+    let s = c .before .before .args .t1 in
+    let n = l .inv .2 in
+    (omega arith, simp length-set (l .inv .1), n, l .inv .3, front-turn s _ (l .out) (l .i) (omega arith) (rw n (omega arith)) (l .inv .4))
 
 returns : tie.Need-returns Inv-loop μ-loop
-returns c = search needs
+returns c = c .before .loop .inv .4 ∙ fill-done (c .before .before .args .t1) _ (c .before .loop .i) 32 (omega arith) (c .before .loop .inv .2)
 
 pub front-spec : {M : Type 1} → statement M
 front-spec =

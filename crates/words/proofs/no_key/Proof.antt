@@ -1,0 +1,14 @@
+-- `words::no_key` meets its contract. As it is defined. Assumes nothing.
+use mathlib.Core.Path.{_≡_, refl, sym, ap, _∙_}
+use borrow.Author.Needs.{needs}
+use Rattle.lemmas.specs.Lists.{upFrom}
+use Rattle.words.specs.Words.{noKey, forty}
+use Rattle.words.proofs.no_key.Statement.{statement}
+use Rattle.words.proofs.no_key.Tie as tie
+
+returns : tie.Need-returns
+unfolding noKey forty upFrom
+returns c = refl
+
+pub no-key-spec : {M : Type 1} → statement M
+no-key-spec = tie.close (tie.spec returns)

@@ -1,0 +1,13 @@
+-- `words::no_number` meets its contract. As it is defined. Assumes nothing.
+use mathlib.Core.Path.{_≡_, refl, sym, ap, _∙_}
+use borrow.Author.Needs.{needs}
+use Rattle.words.specs.Words.{noNumber}
+use Rattle.words.proofs.no_number.Statement.{statement}
+use Rattle.words.proofs.no_number.Tie as tie
+
+returns : tie.Need-returns
+unfolding noNumber
+returns c = refl
+
+pub no-number-spec : {M : Type 1} → statement M
+no-number-spec = tie.close (tie.spec returns)
