@@ -10,8 +10,8 @@ import subprocess
 import sys
 
 SIZES = [16, 64, 200, 256]
-OURS = ['edit', 'pick', 'manual', 'overlap', 'lookup', 'search', 'base', 'cut', 'form', 'write', 'read']
-RUST = ['edit', 'pick', 'manual', 'overlap', 'lookup', 'base', 'cut']
+OURS = ['edit', 'pick', 'picks', 'manual', 'manuals', 'overlap', 'lookup', 'search', 'base', 'bases', 'cut', 'advance', 'form', 'write', 'read']
+RUST = ['edit', 'pick', 'manual', 'overlap', 'lookup', 'base', 'cut', 'write', 'read']
 
 
 def least(command):
@@ -35,7 +35,7 @@ def main():
     print('| operation | ' + ' | '.join('%d files' % n for n in SIZES) + ' |')
     print('|---' * (len(SIZES) + 1) + '|')
     for op in OURS:
-        row = ['%.1f' % call(ours, op, n, repeats) for n in SIZES]
+        row = ['%.2f' % call(ours, op, n, repeats) for n in SIZES]
         print('| %s | %s |' % (op, ' | '.join(row)), flush=True)
         if op in RUST and rust != ['-']:
             row = ['%.2f' % call(rust, op, n, 4 * repeats) for n in SIZES]

@@ -2,10 +2,10 @@
 ghost use Prim.Native.Nat.{_<_, _≤_};
 use answers::Counted;
 use answers::Outcome;
+use finding::Found;
 use keys::FileNumber;
 use keys::Key;
 use keys::UserKey;
-use lookups::Found;
 use questions::Asked;
 use questions::Based;
 use questions::Leveled;
@@ -160,7 +160,7 @@ fn first_files() -> [FileRecord; 256] {
 // `find_file` in the files of level 1.
 fn find_deep(k: Key) {
     let files = deep_files();
-    print_found(lookups::find_file_of(1, files, 3, k));
+    print_found(finding::find_file_of(1, files, 3, k));
     print(b"\n");
 }
 
@@ -183,7 +183,7 @@ fn finds_deep() {
 // `find_file` in the files of level 0.
 fn find_first(k: Key) {
     let files = first_files();
-    print_found(lookups::find_file_of(0, files, 3, k));
+    print_found(finding::find_file_of(0, files, 3, k));
     print(b"\n");
 }
 
@@ -195,7 +195,7 @@ fn finds_first() {
     find_first(key(b'n', 5));
     let files = records::blanks();
     print(b"no files:");
-    print_found(lookups::find_file_of(0, files, 0, key(b'a', 5)));
+    print_found(finding::find_file_of(0, files, 0, key(b'a', 5)));
     print(b"\n");
 }
 
@@ -203,11 +203,11 @@ fn finds_first() {
 fn finds_refused() {
     let files = first_files();
     print(b"level 0's files at level 1:");
-    print_found(lookups::find_file_of(1, files, 3, key(b'a', 5)));
+    print_found(finding::find_file_of(1, files, 3, key(b'a', 5)));
     print(b"\nthe same at level 7:");
-    print_found(lookups::find_file_of(7, files, 3, key(b'a', 5)));
+    print_found(finding::find_file_of(7, files, 3, key(b'a', 5)));
     print(b"\na blank record among them:");
-    print_found(lookups::find_file_of(0, files, 4, key(b'a', 5)));
+    print_found(finding::find_file_of(0, files, 4, key(b'a', 5)));
     print(b"\n");
 }
 

@@ -1,17 +1,22 @@
-// bench OPERATION FILES REPEATS: does an operation (edit, form, write, read, pick, manual, overlap, lookup, search, cut, base) so many times on a store of so many files, and prints how many were done.
+// bench OPERATION FILES REPEATS: does an operation so many times on a store of so many files, and prints how many were done. Operations: edit, form, write, read,
+// pick, manual, overlap, lookup, base, cut; picks, manuals, search, bases, advance do as pick, manual, lookup, base and cut with what was tested once.
 ghost use mathlib.Core.Path.{_≡_};
 ghost use mathlib.Core.Bool.{true};
 ghost use Prim.Native.Nat.{_<_, _≤_};
 ghost use Rattle.lists.specs.List.{wellList};
+ghost use Rattle.picked.specs.Picked.{wellPicked};
+ghost use Rattle.store.specs.Store.{wellStore};
 use answers::Counted;
 use answers::Outcome;
+use cutter::Cutter;
 use edits::Addition;
 use edits::Deletion;
 use edits::Edit;
+use finding::Round;
 use keys::FileNumber;
 use keys::Key;
 use lists::FileList;
-use lookups::Round;
+use picked::Pick;
 use picked::Picked;
 use store::Store;
 use store::Stored;
@@ -21,6 +26,9 @@ use writing::Written;
 const SMALL: u64 = 1000;
 
 const LARGE: u64 = 20971520;
+
+// How many keys the files of a level share among them.
+const KEYS: u64 = 10000;
 
 // The maximum file size of picks.
 const MAXIMUM: u64 = 2097152;
@@ -86,28 +94,84 @@ fn cam_key(n: u64) -> Key {
     }
 }
 
-// File i ends before file i + 1 begins.
-fn addition(level: usize, number: u64, i: u64, size: u64) -> Addition {
-    let n = i % 1000;
+// The first of a level's files and how many there are, at least 1.
+struct Share {
+    from: u64,
+    width: u64,
+}
+
+// A level's share of so many files: a tenth at level 1, four tenths at level 2, the rest at level 3.
+fn share_of(level: usize, files: u64) -> Share
+    requires { ⌜ level ≤ 3 ⌝ }
+    ensures { λ r. ⌜ (r .from ≤ 1000) × ((0 < r .width) × (r .width ≤ 1000)) ⌝ }
+{
+    let f = files % 1000;
+    let from = start(level, f);
+    let to = start(level + 1, f);
+    let mut width: u64 = 1;
+    if from < to {
+        width = to - from;
+    }
+    Share {
+        from: from,
+        width: width,
+    }
+}
+
+// Where a level's files begin among so many.
+fn start(level: usize, files: u64) -> u64
+    requires { ⌜ files < 1000 ⌝ }
+    ensures { λ r. ⌜ r ≤ 1000 ⌝ }
+{
+    if level < 2 {
+        return 0;
+    }
+    if level == 2 {
+        return files / 10;
+    }
+    if level == 3 {
+        return files / 2;
+    }
+    files
+}
+
+// The level of file i of so many.
+fn level_of(i: u64, files: u64) -> usize
+    ensures { λ r. ⌜ r ≤ 3 ⌝ }
+{
+    let f = files % 1000;
+    if i < start(2, f) {
+        return 1;
+    }
+    if i < start(3, f) {
+        return 2;
+    }
+    3
+}
+
+// A number less another, 0 where that is greater.
+fn less(n: u64, m: u64) -> u64
+    ensures { λ r. ⌜ r ≤ n ⌝ }
+{
+    if n < m {
+        return 0;
+    }
+    n - m
+}
+
+// File i of so many: the files of each level share all the keys among them, one after another.
+fn addition(number: u64, i: u64, files: u64, size: u64) -> Addition {
+    let level = level_of(i, files);
+    let s = share_of(level, files);
+    let width = s.width;
+    let n = less(i % 1000, s.from) % width % 1000;
     Addition {
         level: level,
         number: FileNumber(number),
         size: size,
-        smallest: cam_key(2 * n),
-        largest: cam_key(2 * n + 1),
+        smallest: cam_key(n * KEYS / width),
+        largest: cam_key(less((n + 1) * KEYS / width, 1)),
     }
-}
-
-// The level of file i of so many: a tenth at level 1, four tenths at level 2, the rest at level 3.
-fn level_of(i: u64, files: u64) -> usize {
-    let f = files % 1000;
-    if i < f / 10 {
-        return 1;
-    }
-    if i < f / 2 {
-        return 2;
-    }
-    3
 }
 
 // A store of so many files, 64 added at a time.
@@ -120,7 +184,7 @@ fn filled(files: u64, size: u64) -> Store {
         while k < 64 {
             let n = i % 1000 + k;
             if n < files % 1000 {
-                e = e.add(addition(level_of(n, files), 10 + n, n, size));
+                e = e.add(addition(10 + n, n, files, size));
             }
             k += 1;
         }
@@ -138,18 +202,6 @@ fn is_done(o: Outcome) -> bool {
     }
 }
 
-// How many files level 2 has of so many, at least 1.
-fn width_of(files: u64) -> u64
-    ensures { λ r. ⌜ (0 < r) × (r ≤ 1000) ⌝ }
-{
-    let f = files % 1000;
-    let w = f / 2 - f / 10;
-    if w == 0 {
-        return 1;
-    }
-    w
-}
-
 // The number of file i before the k-th edit: its first one, or that of the last round.
 fn old_number(i: u64, k: u64, width: u64) -> u64 {
     if k < width {
@@ -160,13 +212,14 @@ fn old_number(i: u64, k: u64, width: u64) -> u64 {
 
 // The k-th edit: a file of level 2 deleted, and added again under a new number.
 fn replaced(s: Store, files: u64, k: u64) -> Stored {
-    let width = width_of(files);
-    let i = files % 1000 / 10 + k % width % 1000;
+    let level_two = share_of(2, files);
+    let width = level_two.width;
+    let i = level_two.from + k % width % 1000;
     let old = Deletion {
         level: 2,
         number: FileNumber(old_number(i, k, width)),
     };
-    let new = addition(2, 1000 + k % 1000000000, i, SMALL);
+    let new = addition(1000 + k % 1000000000, i, files, SMALL);
     apply::apply(s, Edit::empty().delete(old).add(new))
 }
 
@@ -269,13 +322,23 @@ fn bench_pick(files: u64, repeats: u64) -> u64 {
     done
 }
 
-// A manual pick at level 2 of the whole range, so many times.
-fn bench_manual(files: u64, repeats: u64) -> u64 {
-    let mut s = filled(files, LARGE);
+// A size pick from a store that is known to be well-formed; so is the store that it leaves.
+fn known_pick(s: Store) -> Pick
+    requires { ⌜ wellStore s ≡ true ⌝ }
+    ensures { λ r. ⌜ wellStore (r .store) ≡ true ⌝ }
+{
+    picks::pick_known(s, MAXIMUM)
+}
+
+// Size picks, each from the store that the one before has left; the first store was tested before.
+fn picks_from(start: Store, repeats: u64) -> u64
+    requires { ⌜ wellStore start ≡ true ⌝ }
+{
+    let mut s = start;
     let mut done: u64 = 0;
     let mut k: u64 = 0;
     while k < repeats {
-        let p = picks::compact_range(s, MAXIMUM, 2, cam_key(0), cam_key(1999));
+        let p = known_pick(s);
         let o = p.outcome;
         s = p.store;
         if is_done(o) {
@@ -286,13 +349,85 @@ fn bench_manual(files: u64, repeats: u64) -> u64 {
     done
 }
 
+// A size pick from a store that was tested once, so many times.
+fn bench_picks(files: u64, repeats: u64) -> u64 {
+    let s = filled(files, LARGE);
+    if store::is_well_formed(s) {
+        return picks_from(s, repeats);
+    }
+    0
+}
+
+// A manual pick at level 2 of the whole range from a store that is known to be well-formed; so is the store that it leaves.
+fn known_manual(s: Store) -> Pick
+    requires { ⌜ wellStore s ≡ true ⌝ }
+    ensures { λ r. ⌜ wellStore (r .store) ≡ true ⌝ }
+{
+    picks::compact_known(s, MAXIMUM, 2, cam_key(0), cam_key(9999))
+}
+
+// Such picks, each from the store that the one before has left; the first store was tested before.
+fn manuals_from(start: Store, repeats: u64) -> u64
+    requires { ⌜ wellStore start ≡ true ⌝ }
+{
+    let mut s = start;
+    let mut done: u64 = 0;
+    let mut k: u64 = 0;
+    while k < repeats {
+        let p = known_manual(s);
+        let o = p.outcome;
+        s = p.store;
+        if is_done(o) {
+            done = (done + 1) % 1000000000;
+        }
+        k += 1;
+    }
+    done
+}
+
+// A manual pick from a store that was tested once, so many times.
+fn bench_manuals(files: u64, repeats: u64) -> u64 {
+    let s = filled(files, LARGE);
+    if store::is_well_formed(s) {
+        return manuals_from(s, repeats);
+    }
+    0
+}
+
+// A manual pick at level 2 of the whole range, so many times.
+fn bench_manual(files: u64, repeats: u64) -> u64 {
+    let mut s = filled(files, LARGE);
+    let mut done: u64 = 0;
+    let mut k: u64 = 0;
+    while k < repeats {
+        let p = picks::compact_range(s, MAXIMUM, 2, cam_key(0), cam_key(9999));
+        let o = p.outcome;
+        s = p.store;
+        if is_done(o) {
+            done = (done + 1) % 1000000000;
+        }
+        k += 1;
+    }
+    done
+}
+
+// The number of the k-th key of those asked in no order.
+fn scattered(k: u64) -> u64 {
+    k % KEYS * 37 % KEYS
+}
+
+// The number of the k-th key of so many asked in rising order.
+fn rising(k: u64, repeats: u64) -> u64 {
+    k / (repeats / KEYS + 1) % KEYS
+}
+
 // The files of level 2 that overlap one key's range, so many times.
 fn bench_overlap(files: u64, repeats: u64) -> u64 {
     let s = filled(files, SMALL);
     let mut done: u64 = 0;
     let mut k: u64 = 0;
     while k < repeats {
-        let l = ranges::overlapping_inputs(s, 2, cam_key(k % 1000), cam_key(k % 1000));
+        let l = ranges::overlapping_inputs(s, 2, cam_key(scattered(k)), cam_key(scattered(k)));
         let o = l.outcome;
         if is_done(o) {
             done = (done + 1) % 1000000000;
@@ -333,7 +468,7 @@ fn bench_lookup(files: u64, repeats: u64) -> u64 {
     let mut done: u64 = 0;
     let mut k: u64 = 0;
     while k < repeats {
-        if look_up(l, cam_key(k % 1000)) {
+        if look_up(l, cam_key(scattered(k))) {
             done = (done + 1) % 1000000000;
         }
         k += 1;
@@ -357,9 +492,9 @@ fn round_of(k: u64, length: u64) -> Round
     requires { ⌜ length ≤ 1000 ⌝ }
     ensures { λ r. ⌜ (r .left ≡ length) × (r .sum ≡ 0) ⌝ }
 {
-    let n = k / 1000 % 2000;
+    let n = k / 1000 % KEYS;
     Round {
-        next: cam_key(37 * n % 2000),
+        next: cam_key(scattered(n)),
         after: cam_key(n),
         left: length as usize,
         sum: 0,
@@ -372,7 +507,7 @@ fn search_round(l: FileList, k: u64, length: u64) -> bool
 {
     let files = l.files;
     let n = l.count;
-    let sum = lookups::find_many(files, n, round_of(k, length));
+    let sum = finding::find_many(files, n, round_of(k, length));
     sum <= n % 1000 * 1000
 }
 
@@ -409,7 +544,7 @@ fn bench_base(files: u64, repeats: u64) -> u64 {
     let mut done: u64 = 0;
     let mut k: u64 = 0;
     while k < repeats {
-        let u = keys::user_key(cam_key(1000));
+        let u = keys::user_key(cam_key(rising(k, repeats)));
         let b = questions::is_base_level_for(s, 1, memory, u);
         let o = b.outcome;
         memory = b.memory;
@@ -421,10 +556,10 @@ fn bench_base(files: u64, repeats: u64) -> u64 {
     done
 }
 
-// What a manual pick at level 1 of the whole range takes.
+// What a manual pick at level 1 of the whole range takes: all files of the store.
 fn picked_of(files: u64) -> Picked {
-    let s = filled(files, LARGE);
-    let p = picks::compact_range(s, MAXIMUM, 1, cam_key(0), cam_key(1999));
+    let s = filled(files, SMALL);
+    let p = picks::compact_range(s, MAXIMUM, 1, cam_key(0), cam_key(9999));
     p.picked
 }
 
@@ -435,7 +570,7 @@ fn bench_cut(files: u64, repeats: u64) -> u64 {
     let mut done: u64 = 0;
     let mut k: u64 = 0;
     while k < repeats {
-        let r = cutter::step(c, memory, cam_key(k % 1000));
+        let r = cutter::step(c, memory, cam_key(rising(k, repeats)));
         let o = r.outcome;
         memory = r.memory;
         if is_done(o) {
@@ -446,8 +581,90 @@ fn bench_cut(files: u64, repeats: u64) -> u64 {
     done
 }
 
+// The memory after a key, if it is well-formed. The picked answer was tested before.
+fn advanced(c: Picked, memory: Cutter, key: Key) -> Cutter
+    requires { ⌜ wellPicked c ≡ true ⌝ }
+{
+    if cutter::is_good_memory(c, memory) {
+        let r = cutter::advance(c, memory, key);
+        return r.memory;
+    }
+    memory
+}
+
+// Keys put to the cutter of a picked answer that was tested before; the memory is tested each time. How many were seen.
+fn steps(c: Picked, repeats: u64) -> u64
+    requires { ⌜ wellPicked c ≡ true ⌝ }
+{
+    let mut memory = cutter::fresh_cutter();
+    let mut done: u64 = 0;
+    let mut k: u64 = 0;
+    while k < repeats {
+        memory = advanced(c, memory, cam_key(rising(k, repeats)));
+        if memory.seen {
+            done = (done + 1) % 1000000000;
+        }
+        k += 1;
+    }
+    done
+}
+
+// A key put to the cutter of a pick that was tested once, so many times.
+fn bench_advance(files: u64, repeats: u64) -> u64 {
+    let c = picked_of(files);
+    if picked::is_well_formed(c) {
+        return steps(c, repeats);
+    }
+    0
+}
+
+// Base levels asked of a store that was tested before: how many keys are not at theirs.
+fn bases(s: Store, repeats: u64) -> u64
+    requires { ⌜ wellStore s ≡ true ⌝ }
+{
+    let mut others: u64 = 0;
+    let mut k: u64 = 0;
+    while k < repeats {
+        let u = keys::user_key(cam_key(rising(k, repeats)));
+        if !questions::is_base_level(s, 1, u) {
+            others = (others + 1) % 1000000000;
+        }
+        k += 1;
+    }
+    others
+}
+
+// A base-level question of a store that was tested once, so many times.
+fn bench_bases(files: u64, repeats: u64) -> u64 {
+    let s = filled(files, SMALL);
+    if store::is_well_formed(s) {
+        return bases(s, repeats);
+    }
+    0
+}
+
 fn is_operation(word: &[u8], n: usize, text: &[u8]) -> bool {
     words::is_word(word, 0, n, text)
+}
+
+// Picks from and questions of what was tested once.
+fn run_known(word: &[u8], n: usize, files: u64, repeats: u64) -> u64 {
+    if is_operation(word, n, b"picks") {
+        return bench_picks(files, repeats);
+    }
+    if is_operation(word, n, b"manuals") {
+        return bench_manuals(files, repeats);
+    }
+    if is_operation(word, n, b"search") {
+        return bench_search(files, repeats);
+    }
+    if is_operation(word, n, b"advance") {
+        return bench_advance(files, repeats);
+    }
+    if is_operation(word, n, b"bases") {
+        return bench_bases(files, repeats);
+    }
+    0
 }
 
 // Picks and questions.
@@ -464,16 +681,13 @@ fn run_more(word: &[u8], n: usize, files: u64, repeats: u64) -> u64 {
     if is_operation(word, n, b"lookup") {
         return bench_lookup(files, repeats);
     }
-    if is_operation(word, n, b"search") {
-        return bench_search(files, repeats);
-    }
     if is_operation(word, n, b"base") {
         return bench_base(files, repeats);
     }
     if is_operation(word, n, b"cut") {
         return bench_cut(files, repeats);
     }
-    0
+    run_known(word, n, files, repeats)
 }
 
 fn run(word: &[u8], n: usize, files: u64, repeats: u64) -> u64 {

@@ -21,6 +21,9 @@ nothing-asked-requires c κs = search needs
 loop-holds : tie.Need-loop-holds Inv-loop μ-loop
 loop-holds c = search needs
 
+rising-requires : tie.Need-rising-requires Inv-loop μ-loop
+rising-requires c κs = search needs
+
 cam-key-requires : tie.Need-cam-key-requires Inv-loop μ-loop
 cam-key-requires c κs = search needs
 
@@ -57,6 +60,7 @@ bench-base-spec =
     filled-requires
     nothing-asked-requires
     loop-holds
+    rising-requires
     cam-key-requires
     user-key-requires
     is-base-level-for-requires

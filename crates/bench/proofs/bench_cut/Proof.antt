@@ -21,6 +21,9 @@ fresh-cutter-requires c κs = search needs
 loop-holds : tie.Need-loop-holds Inv-loop μ-loop
 loop-holds c = search needs
 
+rising-requires : tie.Need-rising-requires Inv-loop μ-loop
+rising-requires c κs = search needs
+
 cam-key-requires : tie.Need-cam-key-requires Inv-loop μ-loop
 cam-key-requires c κs = search needs
 
@@ -54,6 +57,7 @@ bench-cut-spec =
     picked-of-requires
     fresh-cutter-requires
     loop-holds
+    rising-requires
     cam-key-requires
     step-requires
     is-done-requires

@@ -21,6 +21,9 @@ level-two-requires c κs = search needs
 loop-holds : tie.Need-loop-holds Inv-loop μ-loop
 loop-holds c = search needs
 
+scattered-requires : tie.Need-scattered-requires Inv-loop μ-loop
+scattered-requires c κs = search needs
+
 cam-key-requires : tie.Need-cam-key-requires Inv-loop μ-loop
 cam-key-requires c κs = search needs
 
@@ -51,6 +54,7 @@ bench-lookup-spec =
     filled-requires
     level-two-requires
     loop-holds
+    scattered-requires
     cam-key-requires
     look-up-requires
     add-done

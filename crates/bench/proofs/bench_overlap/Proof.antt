@@ -18,8 +18,14 @@ filled-requires c κs = search needs
 loop-holds : tie.Need-loop-holds Inv-loop μ-loop
 loop-holds c = search needs
 
+scattered-requires : tie.Need-scattered-requires Inv-loop μ-loop
+scattered-requires c κs = search needs
+
 cam-key-requires : tie.Need-cam-key-requires Inv-loop μ-loop
 cam-key-requires c κs = search needs
+
+scattered-requires-2 : tie.Need-scattered-requires-2 Inv-loop μ-loop
+scattered-requires-2 c κs = search needs
 
 cam-key-requires-2 : tie.Need-cam-key-requires-2 Inv-loop μ-loop
 cam-key-requires-2 c κs = search needs
@@ -53,7 +59,9 @@ bench-overlap-spec =
     μ-loop
     filled-requires
     loop-holds
+    scattered-requires
     cam-key-requires
+    scattered-requires-2
     cam-key-requires-2
     overlapping-inputs-requires
     is-done-requires

@@ -31,9 +31,6 @@ loop2-holds c = search needs
 add-n : tie.Need-add-n Inv-loop2 μ-loop2 Inv-loop μ-loop
 add-n c = search needs
 
-level-of-requires : tie.Need-level-of-requires Inv-loop2 μ-loop2 Inv-loop μ-loop
-level-of-requires c κs = search needs
-
 add-addition : tie.Need-add-addition Inv-loop2 μ-loop2 Inv-loop μ-loop
 add-addition c = search needs
 
@@ -80,7 +77,6 @@ filled-spec =
     empty-requires
     loop2-holds
     add-n
-    level-of-requires
     add-addition
     addition-requires
     add-requires

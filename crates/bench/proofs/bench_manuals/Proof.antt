@@ -1,0 +1,24 @@
+-- `bench::bench_manuals` ends and is safe. Assumes nothing.
+use mathlib.Core.Path.{sym, _∙_}
+use borrow.Author.Needs.{needs}
+use Rattle.bench.proofs.bench_manuals.Statement.{statement}
+use Rattle.bench.proofs.bench_manuals.Tie as tie
+
+filled-requires : tie.Need-filled-requires
+filled-requires c κs = search needs
+
+is-well-formed-requires : tie.Need-is-well-formed-requires
+is-well-formed-requires c κs = search needs
+
+manuals-from-requires : tie.Need-manuals-from-requires
+manuals-from-requires c κs = sym (c .before .is-well-formed .ensures) ∙ c .if1 .taken
+
+returns : tie.Need-returns
+returns c = search needs
+
+returns-2 : tie.Need-returns-2
+returns-2 c = search needs
+
+pub bench-manuals-spec : {M : Type 1} → statement M
+bench-manuals-spec =
+    tie.close (tie.spec filled-requires is-well-formed-requires manuals-from-requires returns returns-2)
