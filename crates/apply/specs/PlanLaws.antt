@@ -1,5 +1,5 @@
 -- Laws of the plan of an edit: it decides 6 and 8, and merging by it gives the survivors. Assumes nothing.
-use Prim.Native.Nat.{ℕ, _+_, _≤_, _<_}
+use Prim.Native.Nat.{ℕ, _+_, _≤_, _<_, zero-le}
 use mathlib.Core.Path.{_≡_, refl, sym, ap, _∙_}
 use mathlib.Core.Bool.{true}
 use mathlib.Core.List.{List, _++_, map, map-map, List·Memᴰ as In}
@@ -10,10 +10,11 @@ use Rattle.lemmas.specs.Lists.{join, distinct, sum, upFrom}
 use Rattle.lemmas.specs.Slices.{put, length-put, parts, sum-lengths}
 use Rattle.lemmas.specs.UpFrom.{upFrom-length}
 use Rattle.lemmas.specs.Maps.{join-map}
-use Rattle.lemmas.specs.Merge.{front-laid}
 use Rattle.model.specs.File.{File, full, numbers, inOrder, levelwise}
 use Rattle.model.specs.Edit.{survivorsFrom}
 use Rattle.records.specs.Record.{fileOf, recordOf, blank, vacant}
+use Rattle.records.specs.RecordLaws.{column-run}
+use Rattle.records.specs.Run.{run}
 use Rattle.records.specs.declared.FileRecord.{FileRecord}
 use Rattle.levels.specs.Levels.{levelsOf}
 use Rattle.edits.specs.Edit.{editOf, additionOf, passed}
@@ -49,10 +50,11 @@ module _ (column counts : List ℕ) (ds : List Deletion) (as′ : List Addition)
 
 -- ---- an edit on well-formed levels
 
--- a column of numbers, as it is lent
-pub column-is : (files : List FileRecord) (n k : ℕ) (laid : List ℕ) → n ≤ length files → k ≡ n → laid ≡ put (replicate 256 0) 0 (map recordNumber (take n files)) → take k laid ≡ map recordNumber (take n files)
-column-is files n k laid h e q =
-    front-laid (replicate 256 0) laid (map recordNumber (take n files)) k (omega (arith, length-map (take n files) recordNumber, length-take-le n files h)) q
+-- the numbers of the first n files, as they are lent of their column
+pub column-is : (files : List FileRecord) (n k : ℕ) (column : List ℕ) → n ≤ length files → k ≡ n → column ≡ put (replicate 256 0) 0 (numbers (run 0 k files)) → take k column ≡ map recordNumber (take n files)
+unfolding run numbers fileOf
+column-is files n k column h e q =
+    column-run k 0 k files (replicate 256 0) column (omega arith) zero-le (omega arith) q ∙ map-map (λ (f : File). f .number) fileOf (take k files) ∙ ap (λ (i : ℕ). map recordNumber (take i files)) e
 
 module _ (files : List FileRecord) (counts : List ℕ) (e : Edit) (r : HasRoom e) (w : Few e) (g : Ready files counts (editOf e)) (column : List ℕ)
     (hc : column ≡ map recordNumber (take (sum counts) files)) where

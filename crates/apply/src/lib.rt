@@ -4,7 +4,7 @@ ghost use mathlib.Core.Bool.{true};
 ghost use mathlib.Core.List.{[], _∷_, map};
 ghost use Prim.Native.Nat.{_+_, _≤_};
 ghost use lib.Dec.{ltb};
-ghost use lib.ListN.{length, take, replicate};
+ghost use lib.ListN.{length, take};
 ghost use Rattle.lemmas.specs.Lists.{distinct, join, sum};
 ghost use Rattle.lemmas.specs.Slices.{put};
 ghost use Rattle.model.specs.Answer.{_⇒_};
@@ -13,7 +13,6 @@ ghost use Rattle.model.specs.Edit as model;
 ghost use Rattle.answers.specs.declared.Outcome.the-variants as outcome;
 ghost use Rattle.counters.specs.Counters.{countersOf, countersRecord};
 ghost use Rattle.records.specs.Record.{vacant};
-ghost use Rattle.records.specs.declared.FileRecord as declared;
 ghost use Rattle.store.specs.Store.{stateOf, wellStore, onStore, stored};
 ghost use Rattle.edits.specs.Edit.{editOf, logOf, passed, checks};
 ghost use Rattle.stayers.specs.Stayers.{numberAt};
@@ -120,22 +119,6 @@ fn new_records(additions: [Addition; 64], count: usize) -> [FileRecord; 64]
     files
 }
 
-// The numbers of the first `size` files, zeros past them.
-fn column_of(files: [FileRecord; 256], size: usize) -> [u64; 256]
-    requires { ⌜ size ≤ 256 ⌝ }
-    ensures { λ r. ⌜ r ≡ put (replicate 256 0) 0 (map (λ (f : declared.FileRecord). f .number .0) (take size files)) ⌝ }
-{
-    let mut column = [0u64; 256];
-    let mut i: usize = 0;
-    while i < size {
-        let f = files[i];
-        let n = f.number;
-        column[i] = n.0;
-        i += 1;
-    }
-    column
-}
-
 // 6 where a number stands twice among all survivors, then 8 where they are more than there is room for.
 fn crowded(twice: bool, total: usize) -> Outcome
     ensures { λ r. ⌜ r ≡ passed ((twice ⇒ 6) ∷ (ltb 256 total ⇒ 8) ∷ []) ⌝ }
@@ -238,7 +221,7 @@ fn plan_for(s: Store, e: Edit) -> Plan
     let counts = s.counts;
     let size = levels::counted(counts);
     let files = s.files;
-    let column = column_of(files, size);
+    let column = records::numbers_of(files, 0, size);
     let deletions = e.deletions;
     let additions = e.additions;
     planned(

@@ -57,11 +57,6 @@ fn print(text: &[u8]) {
     io::write_all(1, text);
 }
 
-// A byte as a number of 64 bits.
-fn wide(n: u8) -> u64 {
-    n as u64
-}
-
 // A count as a number of 64 bits.
 fn many(n: usize) -> u64 {
     n as u64
@@ -70,7 +65,7 @@ fn many(n: usize) -> u64 {
 // The number of a refusal.
 fn print_refused(n: u8) {
     print(b" refused ");
-    io::print_decimal(1, wide(n));
+    io::print_decimal(1, octets::wide(n));
 }
 
 // The answer of `find_file`.

@@ -22,9 +22,10 @@ use store::Store;
 use store::Stored;
 use writing::Written;
 
-// Sizes of files: too small for work to be due, and large enough.
+// A size of files by which no work is due.
 const SMALL: u64 = 1000;
 
+// One by which work is due.
 const LARGE: u64 = 20971520;
 
 // How many keys the files of a level share among them.
@@ -32,12 +33,6 @@ const KEYS: u64 = 10000;
 
 // The maximum file size of picks.
 const MAXIMUM: u64 = 2097152;
-
-fn wide(c: u8) -> u64
-    ensures { λ r. ⌜ r ≡ c ⌝ }
-{
-    c as u64
-}
 
 // The number in decimal at the start of a text, as far as its digits go.
 fn number(s: &[u8]) -> u64 {
@@ -54,12 +49,13 @@ fn number(s: &[u8]) -> u64 {
         if 1000000000000 < x {
             return x;
         }
-        x = x * 10 + wide(c - 48);
+        x = x * 10 + octets::wide(c - 48);
         i += 1;
     }
     x
 }
 
+// The number that a word of the command line is.
 fn arg_number(i: usize) -> u64 {
     let mut b = io::buffer();
     let n = os::arg(i, &mut b);
@@ -195,6 +191,7 @@ fn filled(files: u64, size: u64) -> Store {
     s
 }
 
+// Whether a call was not refused.
 fn is_done(o: Outcome) -> bool {
     match o {
         Outcome::Done => true,
@@ -223,6 +220,7 @@ fn replaced(s: Store, files: u64, k: u64) -> Stored {
     apply::apply(s, Edit::empty().delete(old).add(new))
 }
 
+// Edits, each of one deletion and one addition.
 fn bench_edit(files: u64, repeats: u64) -> u64 {
     let mut s = filled(files, SMALL);
     let mut done: u64 = 0;
@@ -253,12 +251,14 @@ fn bench_form(files: u64, repeats: u64) -> u64 {
     done
 }
 
+// The snapshot of a store, in bytes as many as the longest has.
 fn snapshot(s: Store) -> [u8; 25440] {
     let mut out = [0u8; 25440];
     writing::write(s, &mut out);
     out
 }
 
+// How long the snapshot of a store is.
 fn length_of(s: Store) -> usize {
     let mut out = [0u8; 25440];
     let w = writing::write(s, &mut out);
@@ -282,6 +282,7 @@ fn bench_write(files: u64, repeats: u64) -> u64 {
     done
 }
 
+// Whether bytes are read as a snapshot.
 fn is_read(bytes: [u8; 25440], length: usize) -> bool {
     let end = length % 25440;
     let r = reading::read(&bytes[0..end]);
@@ -443,6 +444,7 @@ fn level_two(s: Store) -> FileList {
     l.list
 }
 
+// Whether an answer came.
 fn is_filled(c: Counted) -> bool {
     match c {
         Counted::Filled(n) => true,
@@ -643,6 +645,7 @@ fn bench_bases(files: u64, repeats: u64) -> u64 {
     0
 }
 
+// Whether a word is the one that is named.
 fn is_operation(word: &[u8], n: usize, text: &[u8]) -> bool {
     words::is_word(word, 0, n, text)
 }
@@ -690,6 +693,7 @@ fn run_more(word: &[u8], n: usize, files: u64, repeats: u64) -> u64 {
     run_known(word, n, files, repeats)
 }
 
+// Runs the operation that a word names; the number depends on all its answers.
 fn run(word: &[u8], n: usize, files: u64, repeats: u64) -> u64 {
     if is_operation(word, n, b"edit") {
         return bench_edit(files, repeats);
@@ -706,6 +710,7 @@ fn run(word: &[u8], n: usize, files: u64, repeats: u64) -> u64 {
     run_more(word, n, files, repeats)
 }
 
+// OPERATION FILES REPEATS.
 fn main() {
     let mut word = io::buffer();
     let n = os::arg(1, &mut word);

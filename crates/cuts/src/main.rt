@@ -40,14 +40,12 @@ fn file(number: u64, size: u64, smallest: u8, largest: u8) -> FileRecord {
     records::record(FileNumber(number), size, key(smallest, 9), key(largest, 5))
 }
 
+// Text to standard output.
 fn print(text: &[u8]) {
     io::write_all(1, text);
 }
 
-fn wide(n: u8) -> u64 {
-    n as u64
-}
-
+// A count as a number of 64 bits.
 fn many(n: usize) -> u64
     ensures { λ r. ⌜ r ≡ n ⌝ }
 {
@@ -104,23 +102,26 @@ fn with_file(p: Picked, f: FileRecord) -> Picked {
     r
 }
 
+// Yes, no, or the number of the refusal.
 fn print_told(t: Told) {
     match t {
         Told::Yes => print(b" yes"),
         Told::No => print(b" no"),
         Told::Refused(n) => {
             print(b" refused ");
-            io::print_decimal(1, wide(n));
+            io::print_decimal(1, octets::wide(n));
         }
     }
 }
 
+// Whether a picked answer is a trivial move.
 fn print_trivial(what: &[u8], p: Picked) {
     print(what);
     print_told(picked::is_trivial_move(p));
     print(b"\n");
 }
 
+// Trivial moves: each thing that makes a pick one, or not.
 fn moves() {
     let p = one_input(1, M, 20971519);
     print_trivial(b"E7 grandparents 20971519:", p);
@@ -138,6 +139,7 @@ fn moves() {
     print_trivial(b"M of 2^32 + 1:", one_input(1, 4294967297, 1));
 }
 
+// Picked answers that are not well-formed, one way at a time.
 fn ill_formed() {
     let p = one_input(1, M, 1);
     print_trivial(b"no first input:", counted(p, 0, 1, 1));
@@ -178,7 +180,7 @@ fn print_deleted(what: &[u8], r: Deleted, shown: usize) {
         Outcome::Done => print(b" done, "),
         Outcome::Refused(n) => {
             print(b" refused ");
-            io::print_decimal(1, wide(n));
+            io::print_decimal(1, octets::wide(n));
             print(b", ");
         }
     }
@@ -199,6 +201,7 @@ fn print_deleted(what: &[u8], r: Deleted, shown: usize) {
     print(b"\n");
 }
 
+// One deletion.
 fn print_deletion(d: Deletion) {
     let n = d.number;
     print(b" ");
@@ -217,6 +220,26 @@ fn three_inputs() -> Picked {
     counted(p, 2, 1, 0)
 }
 
+// Input deletions into an edit with room for all, for too few, and with more deletions than there is room for.
+fn deletions_by_room(p: Picked) {
+    let mut e = Edit::empty();
+    e.deletion_count = 253;
+    print_deleted(
+        b"into room for three:",
+        picked::add_input_deletions(p, e),
+        0,
+    );
+    e.deletion_count = 254;
+    print_deleted(b"into room for two:", picked::add_input_deletions(p, e), 0);
+    e.deletion_count = 257;
+    print_deleted(
+        b"into an edit with 257:",
+        picked::add_input_deletions(p, e),
+        0,
+    );
+}
+
+// Input deletions into an edit: in order, after its own, by its room.
 fn deletions() {
     let p = three_inputs();
     print_deleted(
@@ -238,21 +261,7 @@ fn deletions() {
         picked::add_input_deletions(p, two),
         5,
     );
-    let mut e = Edit::empty();
-    e.deletion_count = 253;
-    print_deleted(
-        b"into room for three:",
-        picked::add_input_deletions(p, e),
-        0,
-    );
-    e.deletion_count = 254;
-    print_deleted(b"into room for two:", picked::add_input_deletions(p, e), 0);
-    e.deletion_count = 257;
-    print_deleted(
-        b"into an edit with 257:",
-        picked::add_input_deletions(p, e),
-        0,
-    );
+    deletions_by_room(p);
     print_deleted(
         b"not well-formed:",
         picked::add_input_deletions(counted(p, 3, 1, 0), two),
@@ -275,12 +284,13 @@ fn print_columns(what: &[u8], p: Picked, levels: usize, numbers: usize)
         }
         Counted::Refused(n) => {
             print(b" refused ");
-            io::print_decimal(1, wide(n));
+            io::print_decimal(1, octets::wide(n));
         }
     }
     print_places(ls, ns);
 }
 
+// Four places of both columns.
 fn print_places(ls: [usize; 4], ns: [u64; 4]) {
     print(b",");
     let mut i: usize = 0;
@@ -294,6 +304,7 @@ fn print_places(ls: [usize; 4], ns: [u64; 4]) {
     print(b"\n");
 }
 
+// Input deletions into lent columns, with room and without.
 fn columns() {
     let p = three_inputs();
     print_columns(b"into columns of four:", p, 4, 4);
@@ -313,6 +324,7 @@ fn three_grandparents(level: usize) -> Picked {
     counted(p, 1, 0, 3)
 }
 
+// A cutter in the midst of its work.
 fn memory(seen: bool, place: usize, count: u64) -> Cutter {
     Cutter {
         seen: seen,
@@ -321,6 +333,7 @@ fn memory(seen: bool, place: usize, count: u64) -> Cutter {
     }
 }
 
+// What a cutter remembers.
 fn print_memory(m: Cutter) {
     print(b", place ");
     io::print_decimal(1, many(m.place));
@@ -328,6 +341,7 @@ fn print_memory(m: Cutter) {
     io::print_decimal(1, m.count);
 }
 
+// The answer of a cutter.
 fn print_cut(c: Cut) {
     let o = c.outcome;
     match o {
@@ -340,7 +354,7 @@ fn print_cut(c: Cut) {
         }
         Outcome::Refused(n) => {
             print(b" refused ");
-            io::print_decimal(1, wide(n));
+            io::print_decimal(1, octets::wide(n));
         }
     }
     let m = c.memory;
@@ -361,6 +375,7 @@ fn ask(what: &[u8], p: Picked, m: Cutter, k: Key) -> Cutter {
     after
 }
 
+// Cuts by the grandparents passed, key after key.
 fn cuts() {
     let p = three_grandparents(1);
     let mut m = ask(b"first key e:", p, cutter::fresh_cutter(), key(b'e', 1));
@@ -383,6 +398,7 @@ fn fresh_keys(p: Picked) {
     m = ask(b"first key d@4:", p, cutter::fresh_cutter(), key(b'd', 4));
 }
 
+// Each refusal of a cutter.
 fn refused_cuts() {
     let p = three_grandparents(1);
     let a = key(b'a', 1);
@@ -421,6 +437,7 @@ fn refused_cuts() {
     );
 }
 
+// All of them, one after another.
 fn main() {
     moves();
     ill_formed();

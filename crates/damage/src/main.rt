@@ -80,6 +80,7 @@ fn file(number: u64, size: u64, seeks: u64, smallest: Key, largest: Key) -> File
     }
 }
 
+// A file of one byte to be added.
 fn addition(level: usize, number: u64, smallest: Key, largest: Key) -> Addition {
     Addition {
         level: level,
@@ -105,17 +106,15 @@ fn sound_edit() -> Edit {
         })
 }
 
+// The well-formed store that is damaged.
 fn sound_store() -> Store {
     let r = apply::apply(store::fresh_store(), sound_edit());
     r.store
 }
 
+// Text to standard output.
 fn print(text: &[u8]) {
     io::write_all(1, text);
-}
-
-fn wide(n: u8) -> u64 {
-    n as u64
 }
 
 // What asking for a new file number answers.
@@ -129,7 +128,7 @@ fn print_handed(h: Handed) {
         }
         Outcome::Refused(n) => {
             print(b", refused ");
-            io::print_decimal(1, wide(n));
+            io::print_decimal(1, octets::wide(n));
         }
     }
     print(b"\n");
@@ -264,6 +263,7 @@ fn key_lengths() {
     );
 }
 
+// Keys whose type is not 0 or 1.
 fn key_types() {
     let c = key(b'c', 1);
     let d = key(b'd', 9);
@@ -379,6 +379,7 @@ fn pointers() {
     with_pointer(b"set at level 6", 6, true, b);
 }
 
+// Each kind of damage.
 fn main() {
     tell(b"the store", sound_store());
     empty_places();

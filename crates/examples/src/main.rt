@@ -30,6 +30,7 @@ fn key(user: u8, sequence: u8) -> Key {
     typed_key(user, sequence, 1)
 }
 
+// A file to be added.
 fn addition(level: usize, number: u64, size: u64, smallest: Key, largest: Key) -> Addition {
     Addition {
         level: level,
@@ -40,6 +41,7 @@ fn addition(level: usize, number: u64, size: u64, smallest: Key, largest: Key) -
     }
 }
 
+// A file to be deleted.
 fn deletion(level: usize, number: u64) -> Deletion {
     Deletion {
         level: level,
@@ -47,10 +49,12 @@ fn deletion(level: usize, number: u64) -> Deletion {
     }
 }
 
+// Text to standard output.
 fn print(text: &[u8]) {
     io::write_all(1, text);
 }
 
+// How two keys stand.
 fn print_compared(c: Compared) {
     match c {
         Compared::Before => print(b" before"),
@@ -58,15 +62,12 @@ fn print_compared(c: Compared) {
         Compared::After => print(b" after"),
         Compared::Refused(n) => {
             print(b" refused ");
-            io::print_decimal(1, wide(n));
+            io::print_decimal(1, octets::wide(n));
         }
     }
 }
 
-fn wide(n: u8) -> u64 {
-    n as u64
-}
-
+// A count as a number of 64 bits.
 fn many(n: usize) -> u64
     ensures { λ r. ⌜ r ≡ n ⌝ }
 {
@@ -80,7 +81,7 @@ fn print_stored(r: Stored) {
         Outcome::Done => print(b" done"),
         Outcome::Refused(n) => {
             print(b" refused ");
-            io::print_decimal(1, wide(n));
+            io::print_decimal(1, octets::wide(n));
         }
     }
     let s = r.store;
@@ -94,6 +95,7 @@ fn print_stored(r: Stored) {
     print(b"\n");
 }
 
+// Keys compared.
 fn example_keys() {
     print(b"E1 b@5, b@4:");
     print_compared(keys::compare(key(b'b', 5), key(b'b', 4)));
@@ -106,6 +108,7 @@ fn example_keys() {
     print(b"\n");
 }
 
+// Allowed seeks.
 fn example_seeks() {
     print(b"E12 seeks of 1654783: ");
     io::print_decimal(1, records::allowed_seeks(1654783));
@@ -114,6 +117,7 @@ fn example_seeks() {
     print(b"\n");
 }
 
+// Edits of Table E.
 fn example_edits() {
     let s = store::fresh_store();
     let first = addition(1, 1, 1, key(b'a', 9), key(b'b', 5));
@@ -136,6 +140,7 @@ fn example_edits() {
     print_stored(apply::apply(base.store, again));
 }
 
+// Each refusal of an edit.
 fn example_refusals() {
     let s = store::fresh_store();
     let a = key(b'a', 9);
@@ -199,6 +204,7 @@ fn long_place(n: usize) -> Key {
     }
 }
 
+// A key of one of two lengths.
 fn key_at(n: usize, is_long: bool) -> Key {
     if is_long { long_place(n) } else { place(n) }
 }
@@ -240,6 +246,7 @@ fn all_gone() -> Edit {
     out
 }
 
+// A store with all its room taken, and one file more.
 fn example_full() {
     let s0 = store::fresh_store();
     let s1 = apply::apply(s0, sixty_four(Edit::empty(), 1, 0, false));
@@ -268,12 +275,13 @@ fn print_written(w: Written) {
         }
         Written::Refused(n) => {
             print(b" refused ");
-            io::print_decimal(1, wide(n));
+            io::print_decimal(1, octets::wide(n));
             print(b"\n");
         }
     }
 }
 
+// Bytes with another value at a place.
 fn changed(snapshot: [u8; 256], at: usize, value: u8) -> [u8; 256] {
     let mut bytes = snapshot;
     let place = at % 256;
@@ -313,6 +321,7 @@ fn small_store() -> Store {
     r.store
 }
 
+// The snapshot of a fresh store.
 fn example_fresh() {
     let mut out = [0u8; 58];
     print(b"a fresh store writes");
@@ -322,16 +331,18 @@ fn example_fresh() {
     print_written(writing::write(store::fresh_store(), &mut short));
 }
 
+// A snapshot written, and read back.
 fn example_snapshots() {
     let mut out = [7u8; 256];
     print(b"a small store writes");
     print_written(writing::write(small_store(), &mut out));
     print(b"the byte past it: ");
-    io::print_decimal(1, wide(out[188]));
+    io::print_decimal(1, octets::wide(out[188]));
     print(b"\n");
     example_damages(out);
 }
 
+// A snapshot damaged in one place at a time.
 fn example_damages(out: [u8; 256]) {
     damage(b"read back:", out, 188, 255, 0);
     damage(b"one byte less:", out, 187, 255, 0);
@@ -378,6 +389,7 @@ fn one_file_more(snapshot: [u8; 25440]) -> [u8; 25440] {
     out
 }
 
+// The longest snapshot but for its pointers.
 fn example_longest(s: Store) {
     let mut out = [0u8; 25440];
     print(b"256 files write");
@@ -413,11 +425,13 @@ fn example_most() {
     read_all(out);
 }
 
+// The longest snapshot read back.
 fn read_all(bytes: [u8; 25440]) {
     print(b"read back:");
     print_stored(reading::read(&bytes));
 }
 
+// All of them, one after another.
 fn main() {
     example_keys();
     example_seeks();

@@ -154,13 +154,6 @@ module _ {A : Type 0} (q : A → Bool) (lo hi : ℕ) (l : List A) (d : A) (h : l
       (λ b. ap (λ x. not (q x)) (at-run lo hi l (r - lo) d (omega (arith, e .within))) ∙ ap not (e .failed (lo + (r - lo)) (omega arith) (omega arith))) in
       omega (arith, e .above)
 
--- over the list of what a run's elements stand for
-pub bisect-map : {A B : Type 0} (f : A → B) (q : B → Bool) (lo hi : ℕ) (l : List A) (d : A) → lo ≤ hi → hi ≤ length l
-    → ((i : ℕ) → lo ≤ i → i + 1 < hi → q (f (getD l (i + 1) d)) ≡ true → q (f (getD l i d)) ≡ true)
-    → bisect (λ i. q (f (getD l i d))) (hi - lo) lo hi ≡ lo + before-first (λ x. not (q x)) (map f (slice lo hi l))
-bisect-map f q lo hi l d h k back =
-    bisect-run (λ x. q (f x)) lo hi l d h k back ∙ ap (λ n. lo + n) (sym (first-map f (λ x. not (q x)) (slice lo hi l)))
-
 -- over a whole list
 pub bisect-list : {A : Type 0} (q : A → Bool) (l : List A) (d : A) → ((i : ℕ) → i + 1 < length l → q (getD l (i + 1) d) ≡ true → q (getD l i d) ≡ true)
     → bisect (λ i. q (getD l i d)) (length l) 0 (length l) ≡ before-first (λ x. not (q x)) l

@@ -15,7 +15,7 @@ use Rattle.lemmas.specs.Lists.{any, chain, sort, member, distinct}
 use Rattle.lemmas.specs.ListLaws.{and-left, and-right, both, tally, tally-append, sort-tally, sort-chain, distinct-tally, distinct-of-tally}
 use Rattle.lemmas.specs.Slices.{run-cons, run-end, rest-cons}
 use Rattle.lemmas.specs.Maps.{chain-same, any-append}
-use Rattle.lemmas.specs.Loops.{any-found, any-passed, any-ended, any-map-found, any-map-passed, any-map-ended}
+use Rattle.lemmas.specs.Loops.{any-found, any-passed, any-ended}
 
 -- two tests that follow from each other
 pub same-test : (a b : Bool) → (a ≡ true → b ≡ true) → (b ≡ true → a ≡ true) → a ≡ b
@@ -39,34 +39,6 @@ module _ (n i e : ℕ) (l : List ℕ) where
   unfolding member
   member-ended h k = any-ended (λ m. eqb m n) i e l 0 h k
 
-module _ {A : Type 0} (f : A → ℕ) (n i e : ℕ) (l : List A) (d : A) where
-  -- over what its elements stand for
-  pub member-map-found : i < e → e ≤ length l → f (getD l i d) ≡ n → member n (map f (slice i e l)) ≡ true
-  unfolding member
-  member-map-found h k t = any-map-found f (λ m. eqb m n) i e l d h k (eq-eqb (f (getD l i d)) n t)
-
-  pub member-map-passed : i < e → e ≤ length l → (f (getD l i d) ≡ n → ⊥) → member n (map f (slice i e l)) ≡ member n (map f (slice (i + 1) e l))
-  unfolding member
-  member-map-passed h k t = any-map-passed f (λ m. eqb m n) i e l d h k (ne-eqb (f (getD l i d)) n t)
-
-  pub member-map-ended : i ≤ e → e ≤ i → member n (map f (slice i e l)) ≡ false
-  unfolding member
-  member-map-ended h k = any-map-ended f (λ m. eqb m n) i e l d h k
-
--- ---- a number of a run that stands once more after it
-module _ (i e : ℕ) (l : List ℕ) where
-  pub twice-found : i < e → e ≤ length l → member (getD l i 0) (slice (i + 1) e l) ≡ true → distinct (slice i e l) ≡ false
-  unfolding distinct
-  twice-found h k t = rw (run-cons i e l 0 h k, t)
-
-  pub twice-passed : i < e → e ≤ length l → member (getD l i 0) (slice (i + 1) e l) ≡ false → distinct (slice i e l) ≡ distinct (slice (i + 1) e l)
-  unfolding distinct
-  twice-passed h k t = rw (run-cons i e l 0 h k, t)
-
-  pub twice-ended : i ≤ e → e ≤ i → distinct (slice i e l) ≡ true
-  unfolding distinct
-  twice-ended h k = rw (run-end i e l h k)
-
 -- ---- by places
 
 -- no two places hold one number
@@ -82,16 +54,6 @@ absent x (y ∷ l) (suc j) e h q = absent x l j (rest (eqb y x) e) (le-of-suc-le
     rest : (b : Bool) → (b || any (λ m. eqb m x) l) ≡ false → any (λ m. eqb m x) l ≡ false
     rest true e = clash refl e
     rest false e = e
-
--- the test says so
-pub distinct-means : (l : List ℕ) → distinct l ≡ true → Once l
-unfolding distinct
-distinct-means [] e i j h k q = not-suc-le-zero k
-distinct-means (x ∷ l) e i zero h k q = not-suc-le-zero h
-distinct-means (x ∷ l) e zero (suc j) h k q =
-    absent x l j (not-true (member x l) (and-left (not (member x l)) (distinct l) e)) (le-of-suc-le-suc k) q
-distinct-means (x ∷ l) e (suc i) (suc j) h k q =
-    distinct-means l (and-right (not (member x l)) (distinct l) e) i j (le-of-suc-le-suc h) (le-of-suc-le-suc k) q
 
 -- a number that a list has stands somewhere
 pub member-at : (x : ℕ) (l : List ℕ) → member x l ≡ true → (j : ℕ) × (j < length l) × (x ≡ getD l j 0)
@@ -123,10 +85,6 @@ distinct-tallies a b h =
     (λ d. distinct-of-tally b (λ n. rw (← h n) (distinct-tally a n d)))
     (λ d. distinct-of-tally a (λ n. rw (h n) (distinct-tally b n d)))
 
--- a sort changes nothing of it
-pub distinct-sort : (lt : ℕ → ℕ → Bool) (ns : List ℕ) → distinct (sort lt ns) ≡ distinct ns
-distinct-sort lt ns = distinct-tallies (sort lt ns) ns (λ n. sort-tally lt (λ m. eqb m n) ns)
-
 -- numbers that rise
 rising : (x y : ℕ) (ys : List ℕ) → x < y → chain ltb (y ∷ ys) ≡ true → member x (y ∷ ys) ≡ false
 unfolding chain member any
@@ -156,25 +114,6 @@ rises (x ∷ y ∷ ys) c d =
     let l : x < y = omega (arith, n) in
     both (ltb x y) (chain ltb (y ∷ ys)) (lt-ltb x y l)
     (rises (y ∷ ys) (and-right (leb x y) (chain leb (y ∷ ys)) c) (and-right (not (member x (y ∷ ys))) (distinct (y ∷ ys)) d))
-
--- numbers that do not fall: distinct where they rise
-pub distinct-chain : (ns : List ℕ) → chain leb ns ≡ true → distinct ns ≡ chain ltb ns
-distinct-chain ns c = same-test (distinct ns) (chain ltb ns) (rises ns c) (distinct-rising ns)
-
-not-after : (x y : ℕ) → leb x y ≡ not (ltb y x)
-not-after x y = go (ltb y x) refl
-  where
-    go : (t : Bool) → ltb y x ≡ t → leb x y ≡ not t
-    go true e = lt-leb x y (ltb-true y x e)
-    go false e = le-leb x y (ltb-false y x e)
-
--- sorted numbers do not fall
-pub sort-leb : (ns : List ℕ) → chain leb (sort ltb ns) ≡ true
-sort-leb ns = chain-same leb (λ x y. not (ltb y x)) not-after (sort ltb ns) ∙ sort-chain ltb nat-order ns
-
--- numbers are distinct exactly where they rise once sorted
-pub distinct-by-sort : (ns : List ℕ) → distinct ns ≡ chain ltb (sort ltb ns)
-distinct-by-sort ns = sym (distinct-sort ltb ns) ∙ distinct-chain (sort ltb ns) (sort-leb ns)
 
 -- ---- a list that grows at its end
 

@@ -12,16 +12,6 @@ Each P [] = Unit {0}
 Each P (x ∷ xs) = P x × Each P xs
 
 module _ {A : Type 0} (P : A → Type 0) where
-  -- of none
-  pub each-nil : Each P []
-  unfolding Each
-  each-nil = tt
-
-  -- of one more
-  pub each-cons : (x : A) (xs : List A) → P x → Each P xs → Each P (x ∷ xs)
-  unfolding Each
-  each-cons x xs p e = (p, e)
-
   -- of the element at a place
   pub each-at : (xs : List A) (i : ℕ) (d : A) → Each P xs → i < length xs → P (getD xs i d)
   unfolding Each

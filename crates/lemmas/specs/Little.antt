@@ -93,12 +93,6 @@ number-append (x ∷ a) b =
     ap (λ (n : ℕ). n * number b) (pow-succ' 256 (length a)) ∙ mul-assoc 256 (256 ^ length a) (number b) in
     omega (arith, number-append a b)
 
--- a number by its lower and its upper bytes
-pub number-split : (n : ℕ) (l : List ℕ) → n ≤ length l → number l ≡ number (take n l) + 256 ^ n * number (drop n l)
-number-split n l h =
-    ap number (sym (take-append-drop n l)) ∙ number-append (take n l) (drop n l)
-    ∙ ap (λ (k : ℕ). number (take n l) + 256 ^ k * number (drop n l)) (length-take-le n l h)
-
 -- ---- reading, from the top down: what is read so far, and one byte more below it
 
 -- the bytes from j on
@@ -111,31 +105,10 @@ pub number-back : (l : List ℕ) (j : ℕ) → 0 < j → j ≤ length l → numb
 unfolding number
 number-back l j h k = rw (drop-next l (j - 1) j 0 (omega arith) (omega arith))
 
--- the bytes of a run
-pub number-run : (i e : ℕ) (l : List ℕ) → i < e → e ≤ length l → number (slice i e l) ≡ getD l i 0 + 256 * number (slice (i + 1) e l)
-unfolding number
-number-run i e l h k = rw (run-cons i e l 0 h k)
-
--- the same for a place that counts down
-pub number-run-back : (i e : ℕ) (l : List ℕ) → 0 < i → i ≤ e → e ≤ length l → number (slice (i - 1) e l) ≡ getD l (i - 1) 0 + 256 * number (slice i e l)
-number-run-back i e l h g k =
-    let n : i - 1 + 1 ≡ i = omega arith in
-    number-run (i - 1) e l (omega arith) k ∙ ap (λ (j : ℕ). getD l (i - 1) 0 + 256 * number (slice j e l)) n
-
 -- no byte
 pub number-end : (i e : ℕ) (l : List ℕ) → i ≤ e → e ≤ i → number (slice i e l) ≡ 0
 unfolding number
 number-end i e l h k = rw (run-end i e l h k)
-
--- from the bottom up
-pub number-next : (l : List ℕ) (i : ℕ) → i < length l → number (take (i + 1) l) ≡ number (take i l) + 256 ^ i * getD l i 0
-unfolding number
-number-next l i h =
-    let one : number (getD l i 0 ∷ []) ≡ getD l i 0 = omega arith in
-    rw (add-one i, take-suc l i 0 h)
-    (number-append (take i l) (getD l i 0 ∷ [])
-    ∙ ap (λ (b : ℕ). number (take i l) + 256 ^ length (take i l) * b) one
-    ∙ ap (λ (k : ℕ). number (take i l) + 256 ^ k * getD l i 0) (length-take-le i l (omega arith)))
 
 -- ---- writing: byte j of k laid down at place at + j, the rest of the number after it
 

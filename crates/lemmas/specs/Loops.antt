@@ -126,20 +126,6 @@ module _ {A B : Type 0} (f : A → B) (p : B → Bool) (i e : ℕ) (l : List A) 
     abbrev there : map f (slice i e l) ≡ f (getD l i d) ∷ map f (slice (i + 1) e l)
     there = drop-view f i e l d h k
 
-    -- some pass
-    pub any-map-found : p (f (getD l i d)) ≡ true → any p (map f (slice i e l)) ≡ true
-    any-map-found t = any-here p (map f (slice i e l)) (map f (slice (i + 1) e l)) (f (getD l i d)) there t
-
-    pub any-map-passed : p (f (getD l i d)) ≡ false → any p (map f (slice i e l)) ≡ any p (map f (slice (i + 1) e l))
-    any-map-passed t = any-later p (map f (slice i e l)) (map f (slice (i + 1) e l)) (f (getD l i d)) there t
-
-    -- all pass
-    pub all-map-found : p (f (getD l i d)) ≡ false → all p (map f (slice i e l)) ≡ false
-    all-map-found t = all-here p (map f (slice i e l)) (map f (slice (i + 1) e l)) (f (getD l i d)) there t
-
-    pub all-map-passed : p (f (getD l i d)) ≡ true → all p (map f (slice i e l)) ≡ all p (map f (slice (i + 1) e l))
-    all-map-passed t = all-later p (map f (slice i e l)) (map f (slice (i + 1) e l)) (f (getD l i d)) there t
-
     -- those that pass
     pub keep-map-kept : p (f (getD l i d)) ≡ true → keep p (map f (slice i e l)) ≡ f (getD l i d) ∷ keep p (map f (slice (i + 1) e l))
     keep-map-kept t = keep-here p (map f (slice i e l)) (map f (slice (i + 1) e l)) (f (getD l i d)) there t
@@ -147,41 +133,11 @@ module _ {A B : Type 0} (f : A → B) (p : B → Bool) (i e : ℕ) (l : List A) 
     pub keep-map-passed : p (f (getD l i d)) ≡ false → keep p (map f (slice i e l)) ≡ keep p (map f (slice (i + 1) e l))
     keep-map-passed t = keep-later p (map f (slice i e l)) (map f (slice (i + 1) e l)) (f (getD l i d)) there t
 
-    -- the first that passes
-    pub find-map-found : p (f (getD l i d)) ≡ true → find p (map f (slice i e l)) ≡ some (f (getD l i d))
-    find-map-found t = find-here p (map f (slice i e l)) (map f (slice (i + 1) e l)) (f (getD l i d)) there t
-
-    pub find-map-passed : p (f (getD l i d)) ≡ false → find p (map f (slice i e l)) ≡ find p (map f (slice (i + 1) e l))
-    find-map-passed t = find-later p (map f (slice i e l)) (map f (slice (i + 1) e l)) (f (getD l i d)) there t
-
-    -- how many stand before it
-    pub first-map-found : p (f (getD l i d)) ≡ true → before-first p (map f (slice i e l)) ≡ 0
-    first-map-found t = first-here p (map f (slice i e l)) (map f (slice (i + 1) e l)) (f (getD l i d)) there t
-
-    pub first-map-passed : p (f (getD l i d)) ≡ false → before-first p (map f (slice i e l)) ≡ suc (before-first p (map f (slice (i + 1) e l)))
-    first-map-passed t = first-later p (map f (slice i e l)) (map f (slice (i + 1) e l)) (f (getD l i d)) there t
-
   module _ (h : i ≤ e) (k : e ≤ i) where
     -- nothing is left
-    pub any-map-ended : any p (map f (slice i e l)) ≡ false
-    unfolding any
-    any-map-ended = rw (run-end i e l h k)
-
-    pub all-map-ended : all p (map f (slice i e l)) ≡ true
-    unfolding all
-    all-map-ended = rw (run-end i e l h k)
-
     pub keep-map-ended : keep p (map f (slice i e l)) ≡ []
     unfolding keep
     keep-map-ended = rw (run-end i e l h k)
-
-    pub find-map-ended : find p (map f (slice i e l)) ≡ none
-    unfolding find
-    find-map-ended = rw (run-end i e l h k)
-
-    pub first-map-ended : before-first p (map f (slice i e l)) ≡ 0
-    unfolding before-first
-    first-map-ended = rw (run-end i e l h k)
 
 -- ---- over the plain run
 module _ {A : Type 0} (p : A → Bool) (i e : ℕ) (l : List A) (d : A) where
@@ -207,13 +163,6 @@ module _ {A : Type 0} (p : A → Bool) (i e : ℕ) (l : List A) (d : A) where
     pub keep-passed : p (getD l i d) ≡ false → keep p (slice i e l) ≡ keep p (slice (i + 1) e l)
     keep-passed t = keep-later p (slice i e l) (slice (i + 1) e l) (getD l i d) (run-cons i e l d h k) t
 
-    -- the first that passes
-    pub find-found : p (getD l i d) ≡ true → find p (slice i e l) ≡ some (getD l i d)
-    find-found t = find-here p (slice i e l) (slice (i + 1) e l) (getD l i d) (run-cons i e l d h k) t
-
-    pub find-passed : p (getD l i d) ≡ false → find p (slice i e l) ≡ find p (slice (i + 1) e l)
-    find-passed t = find-later p (slice i e l) (slice (i + 1) e l) (getD l i d) (run-cons i e l d h k) t
-
     -- how many stand before it
     pub first-found : p (getD l i d) ≡ true → before-first p (slice i e l) ≡ 0
     first-found t = first-here p (slice i e l) (slice (i + 1) e l) (getD l i d) (run-cons i e l d h k) t
@@ -227,17 +176,9 @@ module _ {A : Type 0} (p : A → Bool) (i e : ℕ) (l : List A) (d : A) where
     unfolding any
     any-ended = rw (run-end i e l h k)
 
-    pub all-ended : all p (slice i e l) ≡ true
-    unfolding all
-    all-ended = rw (run-end i e l h k)
-
     pub keep-ended : keep p (slice i e l) ≡ []
     unfolding keep
     keep-ended = rw (run-end i e l h k)
-
-    pub find-ended : find p (slice i e l) ≡ none
-    unfolding find
-    find-ended = rw (run-end i e l h k)
 
     pub first-ended : before-first p (slice i e l) ≡ 0
     unfolding before-first
@@ -318,60 +259,3 @@ module _ {A B : Type 0} (f : A → B) (r : B → B → Bool) (i e : ℕ) (l : Li
   pub chain-map-ended : e ≤ i + 1 → e ≤ length l → chain r (map f (slice i e l)) ≡ true
   chain-map-ended h k =
       chain-short r (map f (slice i e l)) (omega (arith, length-view f i e l k))
-
-module _ {A : Type 0} (r : A → A → Bool) (i e : ℕ) (l : List A) (d : A) where
-  module _ (h : i + 1 < e) (k : e ≤ length l) where
-    next : slice i e l ≡ getD l i d ∷ getD l (i + 1) d ∷ slice (i + 1 + 1) e l
-    next = run-cons i e l d (omega arith) k ∙ ap (λ (z : List A). getD l i d ∷ z) (run-cons (i + 1) e l d h k)
-
-    -- the pair at i and i + 1 does not pass, or does
-    pub chain-broken : r (getD l i d) (getD l (i + 1) d) ≡ false → chain r (slice i e l) ≡ false
-    chain-broken t = chain-here r (slice i e l) (slice (i + 1 + 1) e l) (getD l i d) (getD l (i + 1) d) next t
-
-    pub chain-goes-on : r (getD l i d) (getD l (i + 1) d) ≡ true → chain r (slice i e l) ≡ chain r (slice (i + 1) e l)
-    chain-goes-on t =
-        chain-later r (slice i e l) (slice (i + 1 + 1) e l) (getD l i d) (getD l (i + 1) d) next t ∙ ap (chain r) (sym (run-cons (i + 1) e l d h k))
-
-  -- at the last element, or past it
-  pub chain-ended : e ≤ i + 1 → e ≤ length l → chain r (slice i e l) ≡ true
-  chain-ended h k = chain-short r (slice i e l) (omega (arith, length-slice i e l k))
-
--- ---- sums
-module _ {A : Type 0} (f : A → ℕ) (i e : ℕ) (l : List A) (d : A) where
-  pub sum-map-turn : i < e → e ≤ length l → sum (map f (slice i e l)) ≡ f (getD l i d) + sum (map f (slice (i + 1) e l))
-  unfolding sum
-  sum-map-turn h k = rw (drop-view f i e l d h k)
-
-  pub sum-map-ended : i ≤ e → e ≤ i → sum (map f (slice i e l)) ≡ 0
-  unfolding sum
-  sum-map-ended h k = rw (run-end i e l h k)
-
-  -- the same for a total that stops at m: it can take what is left, it cannot, all is taken
-  module _ (s m : ℕ) where
-    pub capped-map-turn : i < e → e ≤ length l → min (s + f (getD l i d) + sum (map f (slice (i + 1) e l))) m ≡ min (s + sum (map f (slice i e l))) m
-    capped-map-turn h k = omega (arith, sum-map-turn h k)
-
-    pub capped-map-full : i < e → e ≤ length l → m ≤ s + f (getD l i d) → min (s + sum (map f (slice i e l))) m ≡ m
-    capped-map-full h k g = omega (arith, sum-map-turn h k)
-
-    pub capped-map-ended : i ≤ e → e ≤ i → s ≤ m → min (s + sum (map f (slice i e l))) m ≡ s
-    capped-map-ended h k g = omega (arith, sum-map-ended h k)
-
-module _ (i e : ℕ) (l : List ℕ) where
-  pub sum-run-turn : i < e → e ≤ length l → sum (slice i e l) ≡ getD l i 0 + sum (slice (i + 1) e l)
-  unfolding sum
-  sum-run-turn h k = rw (run-cons i e l 0 h k)
-
-  pub sum-run-ended : i ≤ e → e ≤ i → sum (slice i e l) ≡ 0
-  unfolding sum
-  sum-run-ended h k = rw (run-end i e l h k)
-
-  module _ (s m : ℕ) where
-    pub capped-turn : i < e → e ≤ length l → min (s + getD l i 0 + sum (slice (i + 1) e l)) m ≡ min (s + sum (slice i e l)) m
-    capped-turn h k = omega (arith, sum-run-turn h k)
-
-    pub capped-full : i < e → e ≤ length l → m ≤ s + getD l i 0 → min (s + sum (slice i e l)) m ≡ m
-    capped-full h k g = omega (arith, sum-run-turn h k)
-
-    pub capped-ended : i ≤ e → e ≤ i → s ≤ m → min (s + sum (slice i e l)) m ≡ s
-    capped-ended h k g = omega (arith, sum-run-ended h k)

@@ -176,9 +176,6 @@ module _ {A : Type 0} (r s : A → A → Bool) (h : (x y : A) → r x y ≡ s x 
   chain-same (x ∷ []) = refl
   chain-same (x ∷ y ∷ ys) = rw (h x y, chain-same (y ∷ ys))
 
-  pub insert-same : (x : A) (ys : List A) → insert r x ys ≡ insert s x ys
-  insert-same x ys = insert-same-in r s x ys (λ y m. h y x)
-
   pub sort-same : (xs : List A) → sort r xs ≡ sort s xs
   sort-same xs = sort-same-in r s xs (λ x y m n. h x y)
 
@@ -288,11 +285,6 @@ module _ {A : Type 0} (lt : A → A → Bool) where
   unfoldable pub insertAll : List A → List A → List A
   insertAll xs [] = xs
   insertAll xs (y ∷ ys) = insertAll (insertAfter y xs) ys
-
-  -- one more to put in
-  pub insertAll-turn : (xs ys : List A) (y : A) → insertAll xs (y ∷ ys) ≡ insertAll (insertAfter y xs) ys
-  unfolding insertAll
-  insertAll-turn xs ys y = refl
 
   -- by places: the number of those before it, and the opening there
   pub insertAfter-at : (x : A) (ys : List A) → insertAfter x ys ≡ take (before-first (lt x) ys) ys ++ (x ∷ drop (before-first (lt x) ys) ys)

@@ -85,10 +85,6 @@ module _ {A : Type 0} where
   pub in-front : (n : ℕ) (l : List A) (i : ℕ) (d : A) → i < length (take n l) → getD (take n l) i d ≡ getD l i d
   in-front n l i d h = getD-take n l i d (omega (arith, length-take n l))
 
-  -- a place within a front part is one of the whole
-  pub front-below : (n : ℕ) (l : List A) (i m : ℕ) → length l ≡ m → i < length (take n l) → i < m
-  front-below n l i m e h = omega (arith, length-take n l)
-
   -- a run from i to m, and on from m to e
   pub run-join : (i m e : ℕ) (l : List A) → i ≤ m → m ≤ e → e ≤ length l → slice i e l ≡ slice i m l ++ slice m e l
   run-join i m e l h k g =
@@ -96,11 +92,6 @@ module _ {A : Type 0} where
       ap (drop i) (sym (take-append-drop m (take e l)))
       ∙ drop-append-le i (take m (take e l)) (slice m e l) long
       ∙ ap (λ (z : List A). drop i z ++ slice m e l) (take-take m e l k)
-
-  -- one more at the end of a run
-  pub run-snoc : (i e : ℕ) (l : List A) (x : A) → i ≤ e → e < length l → slice i (e + 1) (set l e x) ≡ slice i e l ++ (x ∷ [])
-  run-snoc i e l x h k =
-      rw (add-one, take-suc-set l e x k) (drop-append-le i (take e l) (x ∷ []) (omega (arith, length-take-le e l (omega arith))))
 
   -- ---- a run moved one place up
 
@@ -149,13 +140,6 @@ module _ {A : Type 0} where
   pub slice-put-before : (d : List A) (at : ℕ) (s : List A) → at ≤ length d → (i e : ℕ) → e ≤ at → slice i e (put d at s) ≡ slice i e d
   slice-put-before d at s h i e k =
       ap (drop i) (sym (take-take e at (put d at s) k) ∙ ap (take e) (take-put d at s h) ∙ take-take e at d k)
-
-  -- and so is what stands after it
-  pub drop-put : (d : List A) (at : ℕ) (s : List A) → at ≤ length d → drop (at + length s) (put d at s) ≡ drop (at + length s) d
-  unfolding put
-  drop-put d at s h =
-      let k : length (take at d ++ s) ≡ at + length s = length-append (take at d) s ∙ ap (λ (n : ℕ). n + length s) (length-take-le at d h) in
-      rw (← append-assoc (take at d) s (drop (at + length s) d), drop-at (take at d ++ s) (drop (at + length s) d) (at + length s) k)
 
   -- laid over a second time, with no less
   pub put-put : (d : List A) (at : ℕ) (s t : List A) → at ≤ length d → length s ≤ length t → put (put d at s) at t ≡ put d at t
@@ -208,23 +192,6 @@ module _ {A : Type 0} where
   drop-replicate zero m d = let e : m - 0 ≡ m = omega arith in rw e
   drop-replicate (suc n) zero d = let e : 0 - suc n ≡ 0 = omega arith in rw e
   drop-replicate (suc n) (suc m) d = let e : suc m - suc n ≡ m - n = omega arith in rw e (drop-replicate n m d)
-
-  -- laid over with what is there
-  pub put-same : (d : List A) (at n : ℕ) → at ≤ n → n ≤ length d → put d at (slice at n d) ≡ d
-  unfolding put
-  put-same d at n h k =
-      let lr = length-run at n d h k in
-      let e : take at (take n d) ≡ take at d = take-take at n d h in
-      rw (lr, ← append-assoc (take at d) (slice at n d) (drop n d), ← e, take-append-drop at (take n d), take-append-drop n d)
-
-  -- stored one by one from place i on
-  pub sets-put : (d : List A) (i : ℕ) (s : List A) → i + length s ≤ length d → sets d i s ≡ put d i s
-  unfolding put
-  sets-put d i s h = sets-eq s d i h ∙ append-assoc (take i d) s (drop (i + length s) d)
-
-  -- what lies in a list is no longer than the list
-  pub put-within : (d r s : List A) (n : ℕ) → r ≡ put d 0 s → length r ≡ n → length s ≤ n
-  put-within d r s n e h = omega (arith, ap length (e ∙ put-front d s), length-append s (drop (length s) d))
 
   -- ---- parts
 
@@ -490,10 +457,6 @@ module _ {A B : Type 0} (f : A → B) where
     at-view k d z h g =
         let n : k < length (slice i e l) = omega (arith, length-slice i e l g) in
         getD-map (slice i e l) k d z n ∙ ap f (at-run i e l k d h)
-
-    -- one more at the end of the view
-    pub push-view : (x : A) → i ≤ e → e < length l → map f (slice i (e + 1) (set l e x)) ≡ map f (slice i e l) ++ (f x ∷ [])
-    push-view x h k = ap (map f) (run-snoc i e l x h k) ∙ map-append f (slice i e l) (x ∷ [])
 
   -- laid over, as what the elements stand for
   pub put-map : (d : List A) (at : ℕ) (s : List A) → map f (put d at s) ≡ put (map f d) at (map f s)

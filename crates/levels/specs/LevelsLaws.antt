@@ -1,5 +1,5 @@
 -- Laws of levels in one array: what may follow what, levels cut by their counts, and one array for one list of levels. Assumes nothing.
-use Prim.Native.Nat.{ℕ, zero, suc, _+_, _-_, _^_, _≤_, _<_}
+use Prim.Native.Nat.{ℕ, zero, suc, _+_, _-_, _^_, _≤_, _<_, zero-le}
 use mathlib.Core.Path.{_≡_, refl, sym, ap, _∙_}
 use mathlib.Core.Logic.{_↔_}
 use mathlib.Core.Bool.{Bool, true, false, not, _&&_}
@@ -9,7 +9,7 @@ use native.Mathlib.Numerals.{add-one}
 use lib.Dec.{eqb, leb, ltb}
 use borrow.Author.Tests.{leb-true, le-leb, lt-leb, ltb-true, lt-ltb, eqb-true, eq-eqb}
 use lib.ListN.{length, getD, take, drop, replicate, length-map, length-drop, length-replicate, take-append-drop, List·getD-map}
-use lib.Seq.{slice, take-at, drop-at, take-append-seam, length-take-le, take-take}
+use lib.Seq.{slice, take-at, drop-at, length-take-le, take-take}
 use Rattle.lemmas.specs.Lists.{all, chain, join, sum, distinct}
 use Rattle.lemmas.specs.ListLaws.{and-left, and-right, and-true, both, all-in, join-empties}
 use Rattle.lemmas.specs.Slices.{put, parts, part-at, parts-turn, parts-over, length-parts, join-parts, lengths-parts, sum-lengths, put-parts, put-front, put-nil, length-put, drop-replicate}
@@ -20,7 +20,7 @@ use Rattle.lemmas.specs.Each.{Each, each-take, each-drop, each-put, each-replic
 use Rattle.model.specs.Key.{before}
 use Rattle.model.specs.File.{File, full, bySmallest, inOrder, levelwise, goodFile, goodFiles, numbers}
 use Rattle.records.specs.Record.{fileOf, recordOf, blank, vacant, soundRecord, wellRecord, isBlank}
-use Rattle.records.specs.RecordLaws.{past, Shaped, AllShaped, AllWords, sound-list, blank-list, vacant-blank, blank-shaped, well-list, well-list-is, files-of-records, records-well, records-shaped}
+use Rattle.records.specs.RecordLaws.{past, Shaped, AllShaped, AllWords, sound-list, blank-list, vacant-blank, blank-shaped, well-list, well-list-is, files-of-records, records-well, records-shaped, column-run}
 use Rattle.records.specs.Run.{run}
 use Rattle.records.specs.declared.FileRecord.{FileRecord}
 use Rattle.levels.specs.declared.Surveyed.{Surveyed}
@@ -399,15 +399,6 @@ well-is files counts q k w h =
     (regroup (leb n 256) (all soundRecord rs) (all isBlank (drop n files)) (eqb (length (levelsOf files counts)) 7) (all (goodFile full) (map fileOf rs))
     (distinct (numbers (map fileOf rs))) (leb (length (map fileOf rs)) 256) (levelwise inOrder 0 (levelsOf files counts)) (le-leb n 256 h) seven roomy)
 
--- the numbers of the first n files stand at the front of their column
-column-is : (n : ℕ) (files : List FileRecord) (d column : List ℕ) → n ≤ length files → column ≡ put d 0 (numbers (run 0 n files)) → take n column ≡ numbers (map fileOf (take n files))
-unfolding run numbers
-column-is n files d column h e =
-    let rs = map fileOf (take n files) in
-    let ns = map (λ (f : File). f .number) rs in
-    let size : n ≡ length ns = omega (arith, length-map rs (λ (f : File). f .number), length-map (take n files) fileOf, length-take-le n files h) in
-    ap (λ (i : ℕ). take i column) size ∙ ap (take (length ns)) (e ∙ put-front d ns) ∙ take-append-seam ns (drop (length ns) d)
-
 -- a test that fails without one of its parts fails with it
 still-fails : (a b d u : Bool) → a && b && d ≡ false → a && b && u && d ≡ false
 still-fails false b d u e = refl
@@ -418,7 +409,7 @@ still-fails true true d false e = refl
 -- levels are well-formed where a look at them tells that they are arranged and gives no number twice
 pub survey-well : (files : List FileRecord) (counts : List ℕ) → length files ≡ 256 → length counts ≡ 7 → AllWords files
     → tellsWell (surveyOf files counts) ≡ wellLevels files counts
-unfolding unarranged tellsWell wellLevels soundLevels full
+unfolding unarranged tellsWell wellLevels soundLevels full run
 survey-well files counts q k w = go (arranged files counts) refl
   where
     go : (t : Bool) → arranged files counts ≡ t → tellsWell (surveyOf files counts) ≡ wellLevels files counts
@@ -432,7 +423,7 @@ survey-well files counts q k w = go (arranged files counts) refl
         let all-three : a && b && d ≡ true = sym (arranged-is files counts h) ∙ e in
         let two = and-left (a && b) d all-three in
         let seen : take n (put (replicate 256 0) 0 (numbers (run 0 n files))) ≡ numbers (map fileOf (take n files)) =
-        column-is n files (replicate 256 0) (put (replicate 256 0) 0 (numbers (run 0 n files))) (omega arith) refl in
+        column-run n 0 n files (replicate 256 0) (put (replicate 256 0) 0 (numbers (run 0 n files))) (omega arith) zero-le (omega arith) refl in
         rw (survey-all files counts e, seen) (sym (well-is files counts q k w h ∙ rw (and-left a b two, and-right a b two, and-right (a && b) d all-three, and-true u)))
     go false e = rw (survey-none files counts e) (sym (room (leb (sum counts) 256) refl))
       where

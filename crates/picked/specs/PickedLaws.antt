@@ -10,7 +10,7 @@ use native.Mathlib.Numerals.{add-one}
 use lib.Dec.{eqb, leb, ltb}
 use borrow.Author.Tests.{leb-true, leb-false, le-leb, lt-leb, eqb-false, eq-eqb, ne-eqb, lt-ltb, le-ltb, not-false}
 use lib.ListN.{length, getD, take, drop, replicate, length-map, length-append}
-use lib.Seq.{slice, length-take-le, take-at, take-append-le, take-take, drop-drop}
+use lib.Seq.{slice, length-take-le, take-at, drop-drop}
 use Rattle.lemmas.specs.Order.{clash}
 use Rattle.lemmas.specs.Lists.{all, chain, join, sum, distinct, isEmpty}
 use Rattle.lemmas.specs.ListLaws.{and-left, and-right, and-true, both, all-in, map-same}
@@ -18,7 +18,7 @@ use Rattle.lemmas.specs.Distinct.{same-test}
 use Rattle.lemmas.specs.Maps.{all-join}
 use Rattle.lemmas.specs.Merge as merge
 use Rattle.lemmas.specs.Each.{Each, each-slice}
-use Rattle.lemmas.specs.Slices.{put, put-front, parts, take-drop, run-join, slice-map, length-view}
+use Rattle.lemmas.specs.Slices.{put, put-front, parts, take-drop, run-join, length-view}
 use Rattle.model.specs.Answer.{Answer, gives, refused, Refusal, _⇒_, firstOf, onAnswer, lent}
 use Rattle.model.specs.File.{File, full, total, numbers, inOrder, levelwise, goodFile}
 use Rattle.model.specs.File as file
@@ -31,7 +31,7 @@ use Rattle.answers.specs.declared.Counted.{Counted}
 use Rattle.answers.specs.declared.Counted.the-variants as counted
 use Rattle.answers.specs.Outcome.{countedOf, filling}
 use Rattle.records.specs.Record.{fileOf, soundRecord, wellRecord, isBlank}
-use Rattle.records.specs.RecordLaws.{AllShaped, AllWords, well-list, well-list-is, total-bound}
+use Rattle.records.specs.RecordLaws.{AllShaped, AllWords, well-list, well-list-is, total-bound, column-run}
 use Rattle.records.specs.Run.{run}
 use Rattle.records.specs.declared.FileRecord.{FileRecord}
 use Rattle.levels.specs.Levels.{levelsOf, laidOut, countsOf, soundLevels, arranged}
@@ -380,17 +380,6 @@ pub levels-deeper : (l a b c : ℕ) → (l ≡ 0 → ⊥) → asLevels l a b c �
 unfolding asLevels
 levels-deeper zero a b c h = absurd (h refl)
 levels-deeper (suc l) a b c h = refl
-
--- the numbers of a run, from a column of numbers
-column-run : (n from to : ℕ) (files : List FileRecord) (d column : List ℕ) → n ≤ length files → from ≤ to → to ≤ n → column ≡ put d 0 (numbers (run 0 n files))
-    → slice from to column ≡ numbers (run from to files)
-unfolding run numbers
-column-run n from to files d column q h k e =
-    let number : File → ℕ = λ f. f .number in
-    let fs = map fileOf (take n files) in
-    let size : length (map number fs) ≡ n = length-map fs number ∙ length-map (take n files) fileOf ∙ length-take-le n files q in
-    ap (slice from to) (e ∙ put-front d (map number fs)) ∙ ap (drop from) (take-append-le to (map number fs) (drop (length (map number fs)) d) (omega arith))
-    ∙ slice-map number from to fs ∙ ap (map number) (slice-map fileOf from to (take n files) ∙ ap (λ (rs : List FileRecord). map fileOf (drop from rs)) (take-take to n files k))
 
 -- what is lent of a list from a place up to another
 pub lent-slice : {A : Type 0} (from to : ℕ) (xs : List A) → from ≤ to → take (to - from) (drop from xs) ≡ slice from to xs

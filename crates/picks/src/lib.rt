@@ -217,8 +217,7 @@ fn complete(s: Store, maximum: u64, cause: Cause, level: usize, first: Found) ->
     let b = second.places;
     let inputs = ranges::joined(a, b);
     let all = ranges::joined(inputs, grand);
-    let files = s.files;
-    let list = ranges::list_at(files, all);
+    let list = ranges::list_at(s, all);
     let laid = list.files;
     let ends = chosen.ends;
     let high = ends.high;

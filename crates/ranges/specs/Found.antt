@@ -9,7 +9,7 @@ use Rattle.lemmas.specs.Lists.{chain, keep}
 use Rattle.model.specs.File.{File, total, bySmallest}
 use Rattle.model.specs.Key.{Key, before}
 use Rattle.model.specs.Pick.{upTo}
-use Rattle.model.specs.Range.{Range, overlaps, lowKey, highKey, rangeOf}
+use Rattle.model.specs.Range.{Range, between, overlaps, lowKey, highKey}
 use Rattle.keys.specs.Key.{keyOf}
 use Rattle.records.specs.Run.{run}
 use Rattle.records.specs.declared.Ends.{Ends}
@@ -17,7 +17,7 @@ use Rattle.records.specs.declared.FileRecord.{FileRecord}
 use Rattle.store.specs.declared.Store.{Store}
 use Rattle.ranges.specs.declared.Found.{Found}
 use Rattle.ranges.specs.declared.Span.{Span}
-use Rattle.ranges.specs.Ranges.{spanOf, listedAt, filesAt, inputsOf, Held}
+use Rattle.ranges.specs.Ranges.{spanRecord, listedAt, filesAt, inputsOf, Held}
 
 -- the smallest key of n files and of m files after them, by those of each
 unfoldable pub lowWith : ℕ → Key → ℕ → Key → Key
@@ -75,10 +75,11 @@ pub record Known (s : Store) (n : ℕ) (r : Found) : Type 0 where
   pub held : Held s n (r .places)
   pub sums : Summed (inputsOf s (r .places)) (r .ends) (r .bytes)
 
--- the range of files found
-pub record Ranging (a : Found) (r : Span) : Type 0 where
-  pub range : (s : Store) (n : ℕ) → Known s n a → spanOf r ≡ rangeOf (inputsOf s (a .places))
+-- the range of files found: that of their ends
+unfoldable pub rangeFound : Found → Span
+rangeFound a = spanRecord (between (keyOf (a .ends .low)) (keyOf (a .ends .high)))
 
--- the joint range of files found at two levels
-pub record Joint (a b : Found) (r : Span) : Type 0 where
-  pub range : (s : Store) (n m : ℕ) → Known s n a → Known s m b → spanOf r ≡ rangeOf (inputsOf s (a .places) ++ inputsOf s (b .places))
+-- the joint range of files found at two levels: that of both their ends
+unfoldable pub jointFound : Found → Found → Span
+jointFound a b =
+    spanRecord (between (lowWith (a .places .count) (keyOf (a .ends .low)) (b .places .count) (keyOf (b .ends .low))) (highWith (a .places .count) (keyOf (a .ends .high)) (b .places .count) (keyOf (b .ends .high))))

@@ -34,12 +34,13 @@ use Rattle.store.specs.declared.Store.{Store}
 use Rattle.store.specs.Store.{stateOf, wellStore}
 use Rattle.store.specs.StoreLaws as store
 use Rattle.ranges.specs.declared.Found.{Found}
+use Rattle.keys.specs.declared.Key as keys
 use Rattle.ranges.specs.declared.Places.{Places}
 use Rattle.ranges.specs.Ranges.{spanOf, spanRecord, listedAt, fileAt, filesAt, startAt, endAt, inputsOf, Held}
 use Rattle.ranges.specs.RangesLaws.{span-between}
 use Rattle.ranges.specs.CallsLaws.{level-run, level-ends, files-room}
 use Rattle.ranges.specs.PlacesLaws.{files-append, files-length}
-use Rattle.ranges.specs.Found.{lowWith, highWith, rising, Ordered, Summed, Gathered, Gathering, restTo, Known}
+use Rattle.ranges.specs.Found.{lowWith, highWith, rising, Ordered, Summed, Gathered, Gathering, restTo, Known, rangeFound, jointFound}
 
 -- ---- the first of the least of three, whichever two are looked at first
 module _ {A : Type 0} (lt : A → A → Bool) (o : StrictWeak lt) where
@@ -443,21 +444,50 @@ overlapping-deeper (suc n) fs r e = refl
 
 -- ---- ranges from ends
 -- of files found
-pub known-range : (a : Found) (s : Store) (n : ℕ) → Known s n a → spanOf (spanRecord (between (keyOf (a .ends .low)) (keyOf (a .ends .high)))) ≡ rangeOf (inputsOf s (a .places))
-unfolding rangeOf
+pub known-range : (a : Found) (s : Store) (n : ℕ) → Known s n a → spanOf (rangeFound a) ≡ rangeOf (inputsOf s (a .places))
+unfolding rangeFound rangeOf
 known-range a s n k = span-between (a .ends .low) (a .ends .high) ∙ rw (k .sums .low, k .sums .high)
 
--- of two lists of files found
-pub known-joint : (a b : Found) (e : Ends)
+-- a key that some record holds
+record Held-by (k : Key) : Type 0 where
+  holder : keys.Key
+  holds : keyOf holder ≡ k
+
+one : (t : Bool) (a b : keys.Key) → Held-by (cond t (keyOf b) (keyOf a))
+one true a b = record { holder = b; holds = refl }
+one false a b = record { holder = a; holds = refl }
+
+-- the smaller and the larger of two records' keys are held by one of them
+low-held : (n m : ℕ) (a b : keys.Key) → Held-by (lowWith n (keyOf a) m (keyOf b))
+unfolding lowWith
+low-held n zero a b = record { holder = a; holds = refl }
+low-held zero (suc m) a b = record { holder = b; holds = refl }
+low-held (suc n) (suc m) a b = one (before (keyOf b) (keyOf a)) a b
+
+high-held : (n m : ℕ) (a b : keys.Key) → Held-by (highWith n (keyOf a) m (keyOf b))
+unfolding highWith
+high-held n zero a b = record { holder = a; holds = refl }
+high-held zero (suc m) a b = record { holder = b; holds = refl }
+high-held (suc n) (suc m) a b = one (before (keyOf a) (keyOf b)) a b
+
+-- the range of joined ends is the joint range
+pub joint-is : (a b : Found) (e : Ends)
     → keyOf (e .low) ≡ lowWith (a .places .count) (keyOf (a .ends .low)) (b .places .count) (keyOf (b .ends .low))
     → keyOf (e .high) ≡ highWith (a .places .count) (keyOf (a .ends .high)) (b .places .count) (keyOf (b .ends .high))
-    → (s : Store) (n m : ℕ) → Known s n a → Known s m b → spanOf (spanRecord (between (keyOf (e .low)) (keyOf (e .high)))) ≡ rangeOf (inputsOf s (a .places) ++ inputsOf s (b .places))
-unfolding rangeOf
-known-joint a b e l h s n m k j =
+    → spanRecord (between (keyOf (e .low)) (keyOf (e .high))) ≡ jointFound a b
+unfolding jointFound
+joint-is a b e l h = rw (l, h)
+
+-- of two lists of files found
+pub known-joint : (a b : Found) (s : Store) (n m : ℕ) → Known s n a → Known s m b → spanOf (jointFound a b) ≡ rangeOf (inputsOf s (a .places) ++ inputsOf s (b .places))
+unfolding jointFound rangeOf
+known-joint a b s n m k j =
     let fs = inputsOf s (a .places) in
     let gs = inputsOf s (b .places) in
     let f = held-count s n (a .places) (k .held) in
     let g = held-count s m (b .places) (j .held) in
-    let low : keyOf (e .low) ≡ lowKey (fs ++ gs) = rw (low-joined fs gs, f, g, ← k .sums .low, ← j .sums .low) l in
-    let high : keyOf (e .high) ≡ highKey (fs ++ gs) = rw (high-joined fs gs, f, g, ← k .sums .high, ← j .sums .high) h in
-    span-between (e .low) (e .high) ∙ rw (low, high)
+    let x = low-held (a .places .count) (b .places .count) (a .ends .low) (b .ends .low) in
+    let y = high-held (a .places .count) (b .places .count) (a .ends .high) (b .ends .high) in
+    let low : keyOf (x .holder) ≡ lowKey (fs ++ gs) = rw (low-joined fs gs, f, g, ← k .sums .low, ← j .sums .low) (x .holds) in
+    let high : keyOf (y .holder) ≡ highKey (fs ++ gs) = rw (high-joined fs gs, f, g, ← k .sums .high, ← j .sums .high) (y .holds) in
+    rw (← x .holds, ← y .holds) (span-between (x .holder) (y .holder) ∙ rw (low, high))

@@ -16,7 +16,7 @@ ghost use Rattle.store.specs.Store.{onStore, stateOf, wellStore};
 ghost use Rattle.answers.specs.Outcome.{toldOf};
 ghost use Rattle.lists.specs.List.{listOf, listed};
 ghost use Rattle.ranges.specs.Ranges.{spanOf, spanRecord, listedAt, joinedPlaces, Placed, recordsAt, filesAt, inputsOf};
-ghost use Rattle.ranges.specs.Found.{lowWith, highWith, Ordered, Gathered, Known, Ranging, Joint};
+ghost use Rattle.ranges.specs.Found.{lowWith, highWith, Ordered, Gathered, Known, rangeFound, jointFound};
 use answers::Outcome;
 use answers::Refusal;
 use answers::Told;
@@ -227,10 +227,12 @@ fn gathered(files: [FileRecord; 256], from: usize, to: usize, span: Span, most: 
         let f = files[i];
         let low = f.smallest;
         let high = f.largest;
-        if (most < bytes) | keys::user_is_before(stop, low) {
-            i = to;
+        if keys::user_is_after(start, high) {
+            i += 1;
         } else {
-            if !keys::user_is_after(start, high) {
+            if (most < bytes) | keys::user_is_before(stop, low) {
+                i = to;
+            } else {
                 at[n] = i;
                 let own = Ends {
                     low: low,
@@ -239,8 +241,8 @@ fn gathered(files: [FileRecord; 256], from: usize, to: usize, span: Span, most: 
                 ends = joined_ends(ends, n, own, 1);
                 n += 1;
                 bytes += f.size;
+                i += 1;
             }
-            i += 1;
         }
     }
     let places = Places { at: at, count: n };
@@ -270,7 +272,7 @@ pub fn found_in(s: Store, level: usize, span: Span, most: u64) -> Found
 
 // The range of files found.
 pub fn range_of(a: Found) -> Span
-    ensures { λ r. ⌜ Ranging a r ⌝ }
+    ensures { λ r. ⌜ r ≡ rangeFound a ⌝ }
 {
     let ends = a.ends;
     let smallest = ends.low;
@@ -280,7 +282,7 @@ pub fn range_of(a: Found) -> Span
 
 // The joint range of files found at two levels.
 pub fn joint_range(a: Found, b: Found) -> Span
-    ensures { λ r. ⌜ Joint a b r ⌝ }
+    ensures { λ r. ⌜ r ≡ jointFound a b ⌝ }
 {
     let first = a.ends;
     let second = b.ends;
@@ -308,17 +310,17 @@ pub fn joined(first: Places, second: Places) -> Places
     Places { at: at, count: k }
 }
 
-// The records at places as a list. For callers of this repository, whose records are those of files.
-pub fn list_at(files: [FileRecord; 256], places: Places) -> FileList
-    requires { ⌜ Placed 256 places × (all soundRecord (recordsAt files (listedAt places)) ≡ true) ⌝ }
-    ensures { λ r. ⌜ r ≡ listOf (filesAt files (listedAt places)) ⌝ }
+// The records at places of a store as a list. For callers of this repository, whose records are those of files.
+pub fn list_at(s: Store, places: Places) -> FileList
+    requires { ⌜ Placed 256 places × (all soundRecord (recordsAt (s .files) (listedAt places)) ≡ true) ⌝ }
+    ensures { λ r. ⌜ r ≡ listOf (inputsOf s places) ⌝ }
 {
     let at = places.at;
     let count = places.count;
     let mut out = records::blanks();
     let mut k: usize = 0;
     while k < count {
-        let f = files[at[k]];
+        let f = s.files[at[k]];
         out[k] = f;
         k += 1;
     }
@@ -377,10 +379,9 @@ pub fn overlapping_inputs(s: Store, level: usize, start: Key, stop: Key) -> List
     let span = between(start, stop);
     let found = found_in(s, level, span, Found::ALL);
     let places = found.places;
-    let files = s.files;
     let outcome = Outcome::Done;
     Listed {
         outcome: outcome,
-        list: list_at(files, places),
+        list: list_at(s, places),
     }
 }

@@ -7,12 +7,12 @@ use mathlib.Core.List.{List, [], _∷_, map}
 use native.Mathlib.Omega.{arith}
 use native.Mathlib.Nat.{zero-add}
 use lib.Dec.{eqb}
-use lib.ListN.{length, getD, replicate, length-map}
-use lib.Seq.{slice, length-slice}
+use lib.ListN.{length, getD, take, drop, replicate, length-map}
+use lib.Seq.{slice, length-slice, length-take-le, take-append-le, take-take}
 use borrow.Author.Tests.{eqb-true, eq-eqb}
 use Rattle.lemmas.specs.Lists.{all, find, sum}
 use Rattle.lemmas.specs.ListLaws.{and-left, and-right, both, all-in}
-use Rattle.lemmas.specs.Slices.{put, drop-view, run-past, run-within, slice-put, slice-put-before}
+use Rattle.lemmas.specs.Slices.{put, put-front, drop-view, run-past, run-within, slice-map, slice-put, slice-put-before}
 use Rattle.lemmas.specs.Maps.{all-both}
 use Rattle.lemmas.specs.Each.{Each}
 use Rattle.model.specs.File.{File, full, seeks, total, numbers, goodFile, maxSize}
@@ -333,3 +333,16 @@ module _ (d : List FileRecord) (at : ℕ) (s : List FileRecord) (h : at ≤ leng
 -- laid over the front
 pub run-put-front : (d s : List FileRecord) → run 0 (length s) (put d 0 s) ≡ map fileOf s
 run-put-front d s = rw zero-add at (run-put d 0 s zero-le)
+
+-- ---- columns of numbers
+
+-- the numbers of a run, from a column of numbers
+pub column-run : (n from to : ℕ) (files : List FileRecord) (d column : List ℕ) → n ≤ length files → from ≤ to → to ≤ n → column ≡ put d 0 (numbers (run 0 n files))
+    → slice from to column ≡ numbers (run from to files)
+unfolding run numbers
+column-run n from to files d column q h k e =
+    let number : File → ℕ = λ f. f .number in
+    let fs = map fileOf (take n files) in
+    let size : length (map number fs) ≡ n = length-map fs number ∙ length-map (take n files) fileOf ∙ length-take-le n files q in
+    ap (slice from to) (e ∙ put-front d (map number fs)) ∙ ap (drop from) (take-append-le to (map number fs) (drop (length (map number fs)) d) (omega arith))
+    ∙ slice-map number from to fs ∙ ap (map number) (slice-map fileOf from to (take n files) ∙ ap (λ (rs : List FileRecord). map fileOf (drop from rs)) (take-take to n files k))

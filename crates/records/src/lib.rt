@@ -153,6 +153,7 @@ pub fn is_well_formed(r: FileRecord) -> bool
     r.size <= FileRecord::LARGEST_SIZE
 }
 
+// Whether the record of a key is that of no bytes.
 fn is_blank_key(k: Key) -> bool
     ensures { λ b. ⌜ b ≡ blankKey k ⌝ }
 {

@@ -109,6 +109,7 @@ fn push(line: &mut [u8], n: usize, b: u8) -> usize {
     n
 }
 
+// Reads standard input block after block and answers line after line.
 fn main() {
     let mut m = machine::fresh(MAXIMUM);
     let mut line = io::large_buffer();

@@ -60,10 +60,6 @@ module _ (line : List ℕ) (i to b : ℕ) where
   unfolding before-first
   place-end h = rw (word-end line i to h)
 
-  -- it stands within the run
-  pub place-within : i ≤ to → i + before-first (isByte b) (wordOf line i to) ≤ to
-  place-within h = omega (arith, before-first-le (isByte b) (wordOf line i to), word-length line i to)
-
 -- ---- the last place of a byte
 module _ (line : List ℕ) (i to b found : ℕ) where
   pub last-here : i < to → getD line i 0 ≡ b → lastPlace b i found (wordOf line i to) ≡ lastPlace b (i + 1) i (wordOf line (i + 1) to)
@@ -224,9 +220,6 @@ places-length f k n = length-map (upFrom k n) f ∙ upFrom-length k n
 pub word-at : (line : List ℕ) (from to i : ℕ) → i < to - from → getD (wordOf line from to) i 0 ≡ getD line (from + i) 0
 unfolding wordOf
 word-at line from to i h = places-at (λ j. getD line j 0) from (to - from) i h
-
-pub word-past : (line : List ℕ) (from to i : ℕ) → to - from ≤ i → getD (wordOf line from to) i 0 ≡ 0
-word-past line from to i h = getD-past (wordOf line from to) i (omega (arith, word-length line from to))
 
 -- a byte of hex digits
 pub hexBytes-length : (line : List ℕ) (from to : ℕ) → length (hexBytes line from to) ≡ (to - from) / 2

@@ -39,12 +39,6 @@ pub fn byte_at(line: &[u8], i: usize) -> u8
     0
 }
 
-fn wide(x: u8) -> u64
-    ensures { λ r. ⌜ r ≡ x ⌝ }
-{
-    x as u64
-}
-
 // The first place from one on that holds a byte, or the end.
 pub fn place_of(line: &[u8], from: usize, to: usize, b: u8) -> usize
     ensures { λ r. ⌜ r ≡ from + before-first (isByte b) (wordOf (now (line .entry)) from to) ⌝ }
@@ -146,7 +140,7 @@ pub fn number(line: &[u8], from: usize, to: usize) -> NumberWord
         if b'9' < c {
             return no_number();
         }
-        n = next_digit(n.value, wide(c - b'0'));
+        n = next_digit(n.value, octets::wide(c - b'0'));
         if !n.fine {
             return n;
         }

@@ -4,10 +4,9 @@ use mathlib.Core.Path.{_≡_, sym, ap, _∙_}
 use mathlib.Core.List.{List, map}
 use native.Mathlib.Omega.{arith}
 use borrow.Author.Needs.{needs}
-use lib.ListN.{length, take, replicate}
+use lib.ListN.{length, take}
 use lib.Seq.{length-take-le}
 use Rattle.lemmas.specs.Lists.{sum}
-use Rattle.lemmas.specs.Slices.{put}
 use Rattle.store.specs.StoreLaws.{Shape}
 use Rattle.store.proofs.Shape.{shape}
 use Rattle.edits.specs.EditLaws.{HasRoom}
@@ -38,34 +37,33 @@ size c = omega (arith, c .counted .ensures, room (c .before .before))
 counted-requires : tie.Need-counted-requires
 counted-requires c κs = search needs
 
-column-of-requires : tie.Need-column-of-requires
-column-of-requires c κs = omega (arith, size (c .before), room (c .before .before .before))
+numbers-of-requires : tie.Need-numbers-of-requires
+numbers-of-requires c κs = search needs
 
 -- there is room for their numbers
-room-for : (c : tie.After-column-of) → c .before .before .counted .result ≤ length (c .column-of .result)
+room-for : (c : tie.After-numbers-of) → c .before .before .counted .result ≤ length (c .numbers-of .result)
 room-for c =
-    let q : length (c .column-of .result) ≡ 256 = search needs in
+    let q : length (c .numbers-of .result) ≡ 256 = search needs in
     omega (arith, size (c .before .before), room (c .before .before .before .before))
 
 array-share-prefix-column : tie.Need-array-share-prefix-column
 array-share-prefix-column c = room-for (c .before .before)
 
 slice-aggregate-planned : tie.Need-slice-aggregate-planned
-slice-aggregate-planned c = sym (length-take-le (c .before .before .before .before .before .counted .result) (c .before .before .before .column-of .result) (room-for (c .before .before .before)))
+slice-aggregate-planned c = sym (length-take-le (c .before .before .before .before .before .counted .result) (c .before .before .before .numbers-of .result) (room-for (c .before .before .before)))
 
 -- the start, from where the column has been lent
 abbrev start : tie.After-column → tie.Start
 start c = c .before .before .before .before .before .before .before
 
 -- the column, as it is lent, has the numbers of the base
-lent : (c : tie.After-column) → take (c .before .before .before .before .before .counted .result) (c .before .before .before .column-of .result) ≡ map recordNumber (take (sum (start c .args .s .counts)) (start c .args .s .files))
+lent : (c : tie.After-column) → take (c .before .before .before .before .before .counted .result) (c .before .before .before .numbers-of .result) ≡ map recordNumber (take (sum (start c .args .s .counts)) (start c .args .s .files))
 lent c =
     let s = start c in
     let files = s .args .s .files in
     let k = c .before .before .before .before .before in
     let long = shaped s .files in
-    column-is files (sum (s .args .s .counts)) (k .counted .result) (c .before .before .before .column-of .result) (omega (arith, room s)) (size k)
-    (c .before .before .before .column-of .ensures ∙ ap (λ (n : ℕ). put (replicate 256 0) 0 (map recordNumber (take n files))) (size k))
+    column-is files (sum (s .args .s .counts)) (k .counted .result) (c .before .before .before .numbers-of .result) (omega (arith, room s)) (size k) (c .before .before .before .numbers-of .ensures)
 
 planned-requires : tie.Need-planned-requires
 planned-requires c κs =
@@ -90,4 +88,4 @@ returns c =
     c .planned .ensures ∙ ap (λ (z : List ℕ). planOf z (a .s .counts) (take (a .e .«deletion_count») (a .e .deletions)) (take (a .e .«addition_count») (a .e .additions))) (lent l)
 
 pub plan-for-spec : {M : Type 1} → statement M
-plan-for-spec = tie.close (tie.spec counted-requires column-of-requires array-share-prefix-column slice-aggregate-planned planned-requires returns)
+plan-for-spec = tie.close (tie.spec counted-requires numbers-of-requires array-share-prefix-column slice-aggregate-planned planned-requires returns)

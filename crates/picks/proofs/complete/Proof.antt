@@ -22,7 +22,7 @@ use Rattle.ranges.specs.declared.Places.{Places}
 use Rattle.ranges.specs.Ranges.{spanOf, listedAt, Placed, inputsOf}
 use Rattle.ranges.specs.PlacesLaws.{placed-more, joined-count}
 use Rattle.ranges.specs.CallsLaws.{files-room, places-sound}
-use Rattle.ranges.specs.FoundLaws.{held-count, all-taken}
+use Rattle.ranges.specs.FoundLaws.{held-count, all-taken, known-range, known-joint}
 use Rattle.picks.specs.HeldLaws.{inputs-joined, joined-placed, three-counts}
 use Rattle.picks.specs.ChoiceLaws.{complete-by}
 use Rattle.picks.specs.PickCallsLaws.{three-laid}
@@ -114,12 +114,11 @@ all-placed c =
 
 list-at-requires : tie.Need-list-at-requires
 list-at-requires c κs =
-    let j = c .before in
-    let s = j .before .before .before .before .before .before .before .before .before in
+    let s = c .before .before .before .before .before .before .before .before .before in
     let a = s .args in
     let q = store-shape.shape (a .s) _ (s .good .0) .files in
-    let placed = all-placed j in
-    (placed-more (sum (a .s .counts)) 256 (j .joined2 .result) (files-room (a .s) (a .level) (s .pre .0)) placed, places-sound (a .s) (s .pre .0) q (listedAt (j .joined2 .result)) (placed .below))
+    let placed = all-placed c in
+    (placed-more (sum (a .s .counts)) 256 (c .joined2 .result) (files-room (a .s) (a .level) (s .pre .0)) placed, places-sound (a .s) (s .pre .0) q (listedAt (c .joined2 .result)) (placed .below))
 
 with-pointer-requires : tie.Need-with-pointer-requires
 with-pointer-requires c κs = search needs
@@ -132,7 +131,7 @@ second-is c =
     let s = r .before in
     let a = s .args in
     all-taken (a .s) (a .level + 1) (s .pre .0) (omega (arith, s .pre .1)) (inputsOf (a .s) (c .found-in .result .places)) (spanOf (r .range-of .result)) (rangeOf (inputsOf (a .s) (a .first .places)))
-    (c .found-in .ensures .1) (r .range-of .ensures .range (a .s) (a .level) (s .pre .3))
+    (c .found-in .ensures .1) (ap spanOf (r .range-of .ensures) ∙ known-range (a .first) (a .s) (a .level) (s .pre .3))
 
 -- the pick of the model, by its parts
 pick : (c : tie.After-grandparents) → let g = c .before .before in let io = g .before in let a = io .before .before .args in
@@ -148,14 +147,14 @@ pick c =
     let a = io .before .before .args in
     complete-by (stateOf (a .s)) (a .maximum) (causeOf (a .cause)) (a .level) (inputsOf (a .s) (a .first .places)) (inputsOf (a .s) (io .found-in .result .places)) (inputsOf (a .s) (g .grown-first .result .places))
     (inputsOf (a .s) (c .grandparents .result)) (second-is io) (g .grown-first .ensures .1)
-    (c .grandparents .ensures .1 ∙ ap (λ (r : Range). model.grandOf full (stateOf (a .s)) (a .level) r) (j .joint-range .ensures .range (a .s) (a .level) (a .level + 1) (g .grown-first .ensures .0) (io .found-in .ensures .0)))
+    (c .grandparents .ensures .1 ∙ ap (λ (r : Range). model.grandOf full (stateOf (a .s)) (a .level) r) (ap spanOf (j .joint-range .ensures) ∙ known-joint (g .grown-first .result) (io .found-in .result) (a .s) (a .level) (a .level + 1) (g .grown-first .ensures .0) (io .found-in .ensures .0)))
 
 -- the files that are laid down
-laid : (c : tie.After-list-at) → let p = c .before .before .before .before .before .before in let g = p .before .before in let io = g .before in let a = io .before .before .args in
+laid : (c : tie.After-list-at) → let p = c .before .before .before .before .before in let g = p .before .before in let io = g .before in let a = io .before .before .args in
     c .list-at .result .files ≡ laidOut (inputsOf (a .s) (g .grown-first .result .places) ∷ inputsOf (a .s) (io .found-in .result .places) ∷ inputsOf (a .s) (p .grandparents .result) ∷ [])
 unfolding inputsOf
 laid c =
-    let j2 = c .before .before in
+    let j2 = c .before in
     let j = j2 .before in
     let p = j .before .before .before in
     let g = p .before .before in
@@ -173,7 +172,7 @@ returns : tie.Need-returns
 unfolding pickOf pickedRecord threeLists outcomeOf inputsOf
 returns c =
     let la = c .before .before .before .before in
-    let p = la .before .before .before .before .before .before in
+    let p = la .before .before .before .before .before in
     let g = p .before .before in
     let io = g .before in
     let a = io .before .before .args in

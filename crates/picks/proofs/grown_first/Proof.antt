@@ -10,7 +10,7 @@ use Rattle.model.specs.Range.{overlapping, rangeOf}
 use Rattle.store.specs.Store.{stateOf}
 use Rattle.store.proofs.Shape as store-shape
 use Rattle.ranges.specs.Ranges.{spanOf, inputsOf}
-use Rattle.ranges.specs.FoundLaws.{held-count, all-taken}
+use Rattle.ranges.specs.FoundLaws.{held-count, all-taken, known-range, known-joint}
 use Rattle.picks.specs.HeldLaws.{held-bytes}
 use Rattle.picks.specs.ChoiceLaws.{grown, again, kept-alone, kept-few, kept-large, kept-other, grown-taken}
 use borrow.Author.Needs.{needs}
@@ -44,7 +44,7 @@ grown-is c =
     let s = j .before .before .before in
     let a = s .args in
     all-taken (a .s) (a .level) (s .pre .0) (omega (arith, s .pre .1)) (inputsOf (a .s) (c .found-in .result .places)) (spanOf (j .joint-range .result))
-    (rangeOf (inputsOf (a .s) (a .first .places) ++ inputsOf (a .s) (a .second .places))) (c .found-in .ensures .1) (j .joint-range .ensures .range (a .s) (a .level) (a .level + 1) (s .pre .3) (s .pre .4))
+    (rangeOf (inputsOf (a .s) (a .first .places) ++ inputsOf (a .s) (a .second .places))) (c .found-in .ensures .1) (ap spanOf (j .joint-range .ensures) ∙ known-joint (a .first) (a .second) (a .s) (a .level) (a .level + 1) (s .pre .3) (s .pre .4))
 
 -- how many they are
 grown-count : (c : tie.After-found-in) → let a = c .before .before .before .before .args in
@@ -116,7 +116,7 @@ again-count c =
     let l = a .level in
     let fs = grown (stateOf (a .s)) (a .maximum) l (inputsOf (a .s) (a .first .places)) (inputsOf (a .s) (a .second .places)) in
     let is = all-taken (a .s) (l + 1) (s .pre .0) (omega (arith, s .pre .1)) (inputsOf (a .s) (c .found-in2 .result .places)) (spanOf (r .range-of .result)) (rangeOf fs) (c .found-in2 .ensures .1)
-    (r .range-of .ensures .range (a .s) l (g .found-in .ensures .0) ∙ ap rangeOf (grown-is g))
+    (ap spanOf (r .range-of .ensures) ∙ known-range (g .found-in .result) (a .s) l (g .found-in .ensures .0) ∙ ap rangeOf (grown-is g))
     ∙ ap (λ (n : ℕ). overlapping n (level (stateOf (a .s)) n) (rangeOf fs)) (add-one l) in
     sym (ap length is) ∙ held-count (a .s) (l + 1) (c .found-in2 .result .places) (c .found-in2 .ensures .0 .held)
 

@@ -1,11 +1,11 @@
 -- `picks::size_inputs` meets its contract. Assumes nothing.
-use mathlib.Core.Path.{refl, sym, _∙_}
+use mathlib.Core.Path.{refl, sym, ap, _∙_}
 use native.Mathlib.Omega.{arith}
 use Rattle.model.specs.File.{level}
 use Rattle.model.specs.Range.{rangeOf}
 use Rattle.store.specs.Store.{stateOf}
 use Rattle.ranges.specs.Ranges.{spanOf, inputsOf}
-use Rattle.ranges.specs.FoundLaws.{all-taken}
+use Rattle.ranges.specs.FoundLaws.{all-taken, known-range}
 use Rattle.picks.specs.ChoiceLaws.{taken-first, taken-deeper}
 use borrow.Author.Needs.{needs}
 use Rattle.picks.proofs.size_inputs.Statement.{statement}
@@ -24,7 +24,7 @@ returns c =
     let s = t .before in
     let a = s .args in
     let one = inputsOf (a .s) (a .one .places) in
-    let first = all-taken (a .s) 0 (s .pre .0) (omega arith) (inputsOf (a .s) (c .found-in .result .places)) (spanOf (r .range-of .result)) (rangeOf one) (c .found-in .ensures .1) (r .range-of .ensures .range (a .s) (a .level) (s .pre .2)) in
+    let first = all-taken (a .s) 0 (s .pre .0) (omega arith) (inputsOf (a .s) (c .found-in .result .places)) (spanOf (r .range-of .result)) (rangeOf one) (c .found-in .ensures .1) (ap spanOf (r .range-of .ensures) ∙ known-range (a .one) (a .s) (a .level) (s .pre .2)) in
     rw (t .if1 .taken) (c .found-in .ensures .0, first ∙ sym (taken-first 0 (level (stateOf (a .s)) 0) one refl))
 
 returns-2 : tie.Need-returns-2

@@ -2,10 +2,8 @@
 use Prim.Native.Nat.{_-_, _≤_, _<_}
 use mathlib.Core.Path.{_≡_, sym, ap, _∙_}
 use mathlib.Core.List.{[]}
-use mathlib.Core.Logic.{⊎-elim}
 use native.Mathlib.Omega.{arith}
 use borrow.Author.Needs.{needs}
-use borrow.Author.Tests.{not-true, not-false}
 use lib.ListN.{length, getD}
 use Rattle.keys.specs.Key.{keyOf, userOf}
 use Rattle.keys.specs.KeyLaws.{keyOf-record}
@@ -43,8 +41,11 @@ mul-f c = omega arith
 array-copy-out-f : tie.Need-array-copy-out-f Inv-loop μ-loop
 array-copy-out-f c = omega arith
 
-user-is-before-requires : tie.Need-user-is-before-requires Inv-loop μ-loop
-user-is-before-requires c κs = search needs
+user-is-after-requires : tie.Need-user-is-after-requires Inv-loop μ-loop
+user-is-after-requires c κs = search needs
+
+add-i : tie.Need-add-i Inv-loop μ-loop
+add-i c = omega arith
 
 loop-less : tie.Need-loop-less Inv-loop μ-loop
 loop-less c = omega arith
@@ -52,16 +53,36 @@ loop-less c = omega arith
 loop-again : tie.Need-loop-again Inv-loop μ-loop
 unfolding spanOf fileOf
 loop-again c =
+    let u = c .before in
+    let l = u .before .before .before .before .before in
+    let s = l .before .before .before .before .before in
+    let a = s .args in
+    let o = l .loop in
+    let r = spanOf (a .span) in
+    let f = fileOf (getD (a .t1) (o .i) past) in
+    let q : length (a .t1) ≡ 256 = search needs in
+    let room = s .pre .room in
+    let here : o .i < a .to = u .before .before .before .before .loop-test .taken in
+    let fits : a .to ≤ length (a .t1) = omega arith in
+    gather-passed (a .t1) (a .from) (a .to) (a .most) r (o .at) (o .ends) (o .n) (o .bytes) (o .i) (o .inv) here fits (over-passed r f (sym (u .user-is-after .ensures) ∙ c .if1 .taken))
+
+user-is-before-requires : tie.Need-user-is-before-requires Inv-loop μ-loop
+user-is-before-requires c κs = search needs
+
+loop-less-2 : tie.Need-loop-less-2 Inv-loop μ-loop
+loop-less-2 c = omega arith
+
+loop-again-2 : tie.Need-loop-again-2 Inv-loop μ-loop
+unfolding spanOf fileOf
+loop-again-2 c =
     let b = c .before in
-    let l = b .before .before .before .before .before in
-    let a = l .before .before .before .before .before .args in
+    let l = b .before .before .before .before .before .before .before in
+    let s = l .before .before .before .before .before in
+    let a = s .args in
     let o = l .loop in
     let q : length (a .t1) ≡ 256 = search needs in
-    let room = l .before .before .before .before .before .pre .room in
-    gather-stops (a .t1) (a .from) (a .to) (a .most) (spanOf (a .span)) (o .at) (o .ends) (o .n) (o .bytes) (o .i) (o .inv) (omega arith) (omega arith) (b .user-is-before .result) (b .user-is-before .ensures) (c .if1 .taken)
-
-user-is-after-requires : tie.Need-user-is-after-requires Inv-loop μ-loop
-user-is-after-requires c κs = search needs
+    let room = s .pre .room in
+    gather-stops (a .t1) (a .from) (a .to) (a .most) (spanOf (a .span)) (o .at) (o .ends) (o .n) (o .bytes) (o .i) (o .inv) (omega arith) (omega arith) (b .user-is-before .result) (b .user-is-before .ensures) (c .if2 .taken)
 
 mul-at : tie.Need-mul-at Inv-loop μ-loop
 mul-at c = omega arith
@@ -86,19 +107,20 @@ add-bytes c =
     let small = l .loop .inv .small in
     omega (arith, total-turn (l .loop .i) (a .to) (a .t1) (omega (arith, t .loop-test .taken)) (omega arith))
 
-add-i : tie.Need-add-i Inv-loop μ-loop
-add-i c = omega arith
+add-i-2 : tie.Need-add-i-2 Inv-loop μ-loop
+add-i-2 c = omega arith
 
-loop-less-2 : tie.Need-loop-less-2 Inv-loop μ-loop
-loop-less-2 c = omega arith
+loop-less-3 : tie.Need-loop-less-3 Inv-loop μ-loop
+loop-less-3 c = omega arith
 
-loop-again-2 : tie.Need-loop-again-2 Inv-loop μ-loop
+loop-again-3 : tie.Need-loop-again-3 Inv-loop μ-loop
 unfolding spanOf fileOf
-loop-again-2 c =
-    let u = c .before in
-    let e = u .before in
+loop-again-3 c =
+    let j = c .before in
+    let e = j .before in
     let b = e .before in
-    let l = b .before .before .before .before .before in
+    let u = b .before .before in
+    let l = u .before .before .before .before .before in
     let s = l .before .before .before .before .before in
     let a = s .args in
     let o = l .loop in
@@ -106,16 +128,12 @@ loop-again-2 c =
     let f = fileOf (getD (a .t1) (o .i) past) in
     let q : length (a .t1) ≡ 256 = search needs in
     let room = s .pre .room in
-    let here : o .i < a .to = b .before .before .before .before .loop-test .taken in
+    let here : o .i < a .to = u .before .before .before .before .loop-test .taken in
     let fits : a .to ≤ length (a .t1) = omega arith in
-    let on = goes-on (a .most) (o .bytes) (b .user-is-before .result) (e .if1 .left) in
-    ⊎-elim
-    (λ w. let after = sym (u .user-is-after .ensures) ∙ not-true (u .user-is-after .result) (w .0 .taken) in
-    rw (w .3, w .4, w .5, w .6) (gather-taken (a .t1) (a .from) (a .to) (a .most) r (o .at) (o .ends) (o .n) (o .bytes) (o .i) (o .inv) here fits room (on .0)
-    (over-taken r f (sym (b .user-is-before .ensures) ∙ on .1) after) (w .1 .result) (w .1 .ensures .0) (w .1 .ensures .1)))
-    (λ w. let after = sym (u .user-is-after .ensures) ∙ not-false (u .user-is-after .result) (w .0 .left) in
-    rw (w .1, w .2, w .3, w .4) (gather-passed (a .t1) (a .from) (a .to) (a .most) r (o .at) (o .ends) (o .n) (o .bytes) (o .i) (o .inv) here fits (over-passed r f after)))
-    (c .if2 .came)
+    let on = goes-on (a .most) (o .bytes) (b .user-is-before .result) (e .if2 .left) in
+    let after = sym (u .user-is-after .ensures) ∙ b .before .if1 .left in
+    gather-taken (a .t1) (a .from) (a .to) (a .most) r (o .at) (o .ends) (o .n) (o .bytes) (o .i) (o .inv) here fits room (on .0) (over-taken r f (sym (b .user-is-before .ensures) ∙ on .1) after) (j .joined-ends .result)
+    (j .joined-ends .ensures .0) (j .joined-ends .ensures .1)
 
 returns : tie.Need-returns Inv-loop μ-loop
 unfolding spanOf listedAt
@@ -139,16 +157,19 @@ gathered-spec =
     loop-holds
     mul-f
     array-copy-out-f
-    user-is-before-requires
+    user-is-after-requires
+    add-i
     loop-less
     loop-again
-    user-is-after-requires
+    user-is-before-requires
+    loop-less-2
+    loop-again-2
     mul-at
     array-write-at
     joined-ends-requires
     add-n
     add-bytes
-    add-i
-    loop-less-2
-    loop-again-2
+    add-i-2
+    loop-less-3
+    loop-again-3
     returns)

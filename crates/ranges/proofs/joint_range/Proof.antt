@@ -1,8 +1,7 @@
 -- `ranges::joint_range` meets its contract. Assumes nothing.
-use mathlib.Core.Path.{ap, _∙_}
-use Rattle.ranges.specs.Ranges.{spanOf}
-use Rattle.ranges.specs.FoundLaws.{known-joint}
+use mathlib.Core.Path.{_∙_}
 use borrow.Author.Needs.{needs}
+use Rattle.ranges.specs.FoundLaws.{joint-is}
 use Rattle.ranges.proofs.joint_range.Statement.{statement}
 use Rattle.ranges.proofs.joint_range.Tie as tie
 
@@ -16,7 +15,7 @@ returns : tie.Need-returns
 returns c =
     let j = c .before .before .before in
     let a = j .before .before .before .args in
-    record { range = λ s n m k l. ap spanOf (c .between .ensures) ∙ known-joint (a .a) (a .b) (j .joined-ends .result) (j .joined-ends .ensures .0) (j .joined-ends .ensures .1) s n m k l }
+    c .between .ensures ∙ joint-is (a .a) (a .b) (j .joined-ends .result) (j .joined-ends .ensures .0) (j .joined-ends .ensures .1)
 
 pub joint-range-spec : {M : Type 1} → statement M
 joint-range-spec = tie.close (tie.spec joined-ends-requires between-requires returns)

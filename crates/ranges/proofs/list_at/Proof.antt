@@ -11,18 +11,18 @@ use Rattle.model.specs.File.{full}
 use Rattle.records.specs.Record.{recordOf, vacant}
 use Rattle.records.specs.RecordLaws.{past, AllShaped}
 use Rattle.records.specs.declared.FileRecord.{FileRecord}
-use Rattle.records.proofs.Shape.{shapes}
+use Rattle.store.proofs.Shape as store-shape
 use Rattle.lists.specs.List.{listOf}
-use Rattle.ranges.specs.Ranges.{listedAt, recordsAt, filesAt}
+use Rattle.ranges.specs.Ranges.{listedAt, recordsAt, filesAt, inputsOf}
 use Rattle.ranges.specs.PlacesLaws.{files-length, placed-at, records-turn, records-ended, records-kept}
 use Rattle.ranges.proofs.list_at.Statement.{statement}
 use Rattle.ranges.proofs.list_at.Tie as tie
 
 abbrev Inv-loop : tie.InvT-loop
-Inv-loop files at count out₀ k₀ out k = (k ≤ count) × (length out ≡ 256) × (put out k (recordsAt files (slice k count at)) ≡ put (vacant 256) 0 (recordsAt files (slice 0 count at)))
+Inv-loop s at count out₀ k₀ out k = (k ≤ count) × (length out ≡ 256) × (put out k (recordsAt (s .files) (slice k count at)) ≡ put (vacant 256) 0 (recordsAt (s .files) (slice 0 count at)))
 
 abbrev μ-loop : tie.MeasureT-loop
-μ-loop files at count out₀ k₀ out k = count - k
+μ-loop s at count out₀ k₀ out k = count - k
 
 -- in the loop's body: the place is within the room
 place : (c : tie.In-loop Inv-loop μ-loop) → getD (c .before .before .before .before .args .places .at) (c .before .loop .k) 0 < 256
@@ -42,7 +42,7 @@ loop-holds : tie.Need-loop-holds Inv-loop μ-loop
 loop-holds c =
     let a = c .before .before .args in
     let q : length (c .blanks .result) ≡ 256 = search needs in
-    (omega arith, q, ap (λ (d : List FileRecord). put d 0 (recordsAt (a .t1) (slice 0 (a .places .count) (a .places .at)))) (c .blanks .ensures))
+    (omega arith, q, ap (λ (d : List FileRecord). put d 0 (recordsAt (a .t1 .files) (slice 0 (a .places .count) (a .places .at)))) (c .blanks .ensures))
 
 mul-f : tie.Need-mul-f Inv-loop μ-loop
 mul-f c = omega (arith, room (c .before))
@@ -53,8 +53,8 @@ array-read-f c = omega (arith, room (c .before))
 mul-f-2 : tie.Need-mul-f-2 Inv-loop μ-loop
 mul-f-2 c = omega (arith, place c)
 
-array-copy-out-f : tie.Need-array-copy-out-f Inv-loop μ-loop
-array-copy-out-f c = omega (arith, place c)
+element-copy-out-f : tie.Need-element-copy-out-f Inv-loop μ-loop
+element-copy-out-f c = omega (arith, place c)
 
 mul-out : tie.Need-mul-out Inv-loop μ-loop
 mul-out c = omega (arith, room (c .before .before))
@@ -74,16 +74,16 @@ loop-again c =
     let a = l .before .before .before .args in
     let o = l .loop in
     let r = room l in
-    let x = getD (a .t1) (getD (a .places .at) (o .k) 0) past in
+    let x = getD (a .t1 .files) (getD (a .places .at) (o .k) 0) past in
     let q : length (a .places .at) ≡ 256 = search needs in
-    let rest = recordsAt (a .t1) (slice (o .k + 1) (a .places .count) (a .places .at)) in (
+    let rest = recordsAt (a .t1 .files) (slice (o .k + 1) (a .places .count) (a .places .at)) in (
       omega arith,
       length-set (o .out) (o .k) x ∙ o .inv .1,
-      put-cons (o .out) (o .k) x rest (omega arith) ∙ ap (put (o .out) (o .k)) (sym (records-turn (a .t1) (o .k) (a .places .count) (a .places .at) (omega arith) (omega arith))) ∙ o .inv .2,
+      put-cons (o .out) (o .k) x rest (omega arith) ∙ ap (put (o .out) (o .k)) (sym (records-turn (a .t1 .files) (o .k) (a .places .count) (a .places .at) (omega arith) (omega arith))) ∙ o .inv .2,
     )
 
 returns : tie.Need-returns Inv-loop μ-loop
-unfolding listOf full listedAt
+unfolding listOf full listedAt inputsOf
 returns c =
     let l = c .before in
     let s = l .before .before .before in
@@ -92,12 +92,13 @@ returns c =
     let r = room l in
     let ps = slice 0 (a .places .count) (a .places .at) in
     let q : length (a .places .at) ≡ 256 = search needs in
-    let n : length (a .t1) ≡ 256 = search needs in
-    let shaped : AllShaped (a .t1) = search shapes in
-    let kept : recordsAt (a .t1) ps ≡ map recordOf (filesAt (a .t1) ps) = records-kept (a .t1) shaped ps (λ i m. omega (arith, s .pre .0 .below i m)) (s .pre .1) in
-    let ended : recordsAt (a .t1) (slice (o .k) (a .places .count) (a .places .at)) ≡ [] = records-ended (a .t1) (o .k) (a .places .count) (a .places .at) (omega arith) in
-    let files : o .out ≡ put (vacant 256) 0 (map recordOf (filesAt (a .t1) ps)) = sym (ap (put (o .out) (o .k)) ended ∙ put-nil (o .out) (o .k)) ∙ o .inv .2 ∙ ap (put (vacant 256) 0) kept in
-    let count : a .places .count ≡ length (filesAt (a .t1) ps) = sym (files-length (a .t1) ps ∙ length-take-le (a .places .count) (a .places .at) (omega arith)) in
+    let shape = store-shape.shape (a .t1) _ (s .good .0) in
+    let n : length (a .t1 .files) ≡ 256 = shape .files in
+    let shaped : AllShaped (a .t1 .files) = shape .records in
+    let kept : recordsAt (a .t1 .files) ps ≡ map recordOf (filesAt (a .t1 .files) ps) = records-kept (a .t1 .files) shaped ps (λ i m. omega (arith, s .pre .0 .below i m)) (s .pre .1) in
+    let ended : recordsAt (a .t1 .files) (slice (o .k) (a .places .count) (a .places .at)) ≡ [] = records-ended (a .t1 .files) (o .k) (a .places .count) (a .places .at) (omega arith) in
+    let files : o .out ≡ put (vacant 256) 0 (map recordOf (filesAt (a .t1 .files) ps)) = sym (ap (put (o .out) (o .k)) ended ∙ put-nil (o .out) (o .k)) ∙ o .inv .2 ∙ ap (put (vacant 256) 0) kept in
+    let count : a .places .count ≡ length (filesAt (a .t1 .files) ps) = sym (files-length (a .t1 .files) ps ∙ length-take-le (a .places .count) (a .places .at) (omega arith)) in
     λ i. record { files = files i; count = count i }
 
 pub list-at-spec : {M : Type 1} → statement M
@@ -111,7 +112,7 @@ list-at-spec =
     mul-f
     array-read-f
     mul-f-2
-    array-copy-out-f
+    element-copy-out-f
     mul-out
     array-set-from-out
     add-k

@@ -104,7 +104,7 @@ chosen c =
 
 list-at-requires : tie.Need-list-at-requires
 list-at-requires c κs =
-    let o = c .before .before in
+    let o = c .before in
     let e = o .before .before .before .before .before .before .before in
     let start = e .before .before in
     let a = start .args in
@@ -115,7 +115,7 @@ list-at-requires c κs =
 returns-5 : tie.Need-returns-5
 unfolding listed outcomeOf inputsOf
 returns-5 c =
-    let o = c .before .before .before in
+    let o = c .before .before in
     let f = o .before .before in
     let e = f .before .before .before .before .before in
     let start = e .before .before in
