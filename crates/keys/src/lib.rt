@@ -92,8 +92,7 @@ pub fn kind(k: Key) -> u8
         return 0;
     }
     let at = user_len(k);
-    let x = k.bytes;
-    octets::byte(&x, at)
+    octets::byte(&k.bytes, at)
 }
 
 // The sequence of a key: the trailer without its lowest byte.
@@ -151,9 +150,7 @@ pub fn order_of_users(a: Key, b: Key) -> Order
 {
     let m = user_len(a);
     let n = user_len(b);
-    let x = a.bytes;
-    let y = b.bytes;
-    octets::order_of(&x, m, &y, n)
+    octets::order_of(&a.bytes, m, &b.bytes, n)
 }
 
 // The order of a user key and the user key of an internal key.
@@ -162,9 +159,7 @@ pub fn order_of_user(u: UserKey, k: Key) -> Order
 {
     let m = user_key_len(u);
     let n = user_len(k);
-    let x = u.bytes;
-    let y = k.bytes;
-    octets::order_of(&x, m, &y, n)
+    octets::order_of(&u.bytes, m, &k.bytes, n)
 }
 
 // The order of two user keys.
@@ -173,9 +168,7 @@ pub fn order_of_user_keys(u: UserKey, v: UserKey) -> Order
 {
     let m = user_key_len(u);
     let n = user_key_len(v);
-    let x = u.bytes;
-    let y = v.bytes;
-    octets::order_of(&x, m, &y, n)
+    octets::order_of(&u.bytes, m, &v.bytes, n)
 }
 
 // The larger number first.
@@ -267,8 +260,7 @@ pub fn is_sound(k: Key) -> bool
     if Key::ROOM < n {
         return false;
     }
-    let x = k.bytes;
-    octets::zeros_from(&x, n)
+    octets::zeros_from(&k.bytes, n)
 }
 
 // Whether the record of a user key has its length within its room and zeros past its end.
@@ -279,8 +271,7 @@ pub fn is_sound_user(u: UserKey) -> bool
     if UserKey::ROOM < n {
         return false;
     }
-    let x = u.bytes;
-    octets::zeros_from(&x, n)
+    octets::zeros_from(&u.bytes, n)
 }
 
 // Whether zeros stand in all the room of a key's record. No early end, so that many bytes are tested at once.

@@ -86,8 +86,7 @@ pub fn survey(files: [FileRecord; 256], counts: [usize; 7]) -> Surveyed
         if !records::is_well_formed(f) {
             return nothing_seen();
         }
-        let x = f.number;
-        column[i] = x.0;
+        column[i] = f.number.0;
         i += 1;
     }
     while i < 256 {

@@ -18,29 +18,26 @@ key-len-requires : tie.Need-key-len-requires
 key-len-requires c κs = search needs
 
 -- the record's bytes are bytes
-bytes-here : (c : tie.Start) → areBytes (c .args .k .bytes) ≡ true
-bytes-here c = bytes-all (c .args .k .bytes) (λ i. let f : Fits w8 (getD (c .args .k .bytes) i 0) = search needs in f .fits)
+bytes-here : (c : tie.Start) → areBytes (c .args .t1 .bytes) ≡ true
+bytes-here c = bytes-all (c .args .t1 .bytes) (λ i. let f : Fits w8 (getD (c .args .t1 .bytes) i 0) = search needs in f .fits)
 
 returns : tie.Need-returns
-returns c = sym (kind-none (keyOf (c .before .before .args .k)) (omega arith))
+returns c = sym (kind-none (keyOf (c .before .before .args .t1)) (omega arith))
 
 user-len-requires : tie.Need-user-len-requires
 user-len-requires c κs = search needs
 
-slice-aggregate-byte : tie.Need-slice-aggregate-byte
-slice-aggregate-byte c = search needs
-
 byte-requires : tie.Need-byte-requires
 byte-requires c κs =
-    let k = c .before .before .before .before .before .args .k in
+    let k = c .before .before .before .before .before .before .args .t1 in
     let full : length (k .bytes) ≡ 40 = search needs in
     (omega (arith, user-length (keyOf k), keyOf-length k), omega arith)
 
 returns-2 : tie.Need-returns-2
 returns-2 c =
-    let u = c .before .before .before in
+    let u = c .before .before .before .before in
     let s = u .before .before .before in
-    let k = s .args .k in
+    let k = s .args .t1 in
     let full : length (k .bytes) ≡ 40 = search needs in
     let at : u .user-len .result ≡ length (keyOf k) - 8 = omega (arith, user-length (keyOf k)) in
     let some : 0 < length (keyOf k) = omega arith in
@@ -54,6 +51,5 @@ kind-spec =
     key-len-requires
     returns
     user-len-requires
-    slice-aggregate-byte
     byte-requires
     returns-2)

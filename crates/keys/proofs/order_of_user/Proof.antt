@@ -16,29 +16,23 @@ user-key-len-requires c κs = search needs
 user-len-requires : tie.Need-user-len-requires
 user-len-requires c κs = search needs
 
-slice-aggregate-order-of : tie.Need-slice-aggregate-order-of
-slice-aggregate-order-of c = search needs
-
-slice-aggregate-order-of-2 : tie.Need-slice-aggregate-order-of-2
-slice-aggregate-order-of-2 c = search needs
-
 order-of-requires : tie.Need-order-of-requires
 order-of-requires c κs =
-    let s = c .before .before .before .before .before .before .args in
-    let full-u : length (s .u .bytes) ≡ 32 = search needs in
-    let full-k : length (s .k .bytes) ≡ 40 = search needs in
-    (omega (arith, userOf-length (s .u)), omega arith, omega (arith, user-short (s .k)), omega arith)
+    let s = c .before .before .before .before .before .before .before .before .args in
+    let full-u : length (s .t1 .bytes) ≡ 32 = search needs in
+    let full-k : length (s .t2 .bytes) ≡ 40 = search needs in
+    (omega (arith, userOf-length (s .t1)), omega arith, omega (arith, user-short (s .t2)), omega arith)
 
 returns : tie.Need-returns
 unfolding model.userBefore
 returns c =
-    let p = c .before .before .before .before .before .before in
-    let u = p .before .args .u in
-    let k = p .before .args .k in
+    let p = c .before .before .before .before .before .before .before .before in
+    let u = p .before .args .t1 in
+    let k = p .before .args .t2 in
     let full-u : length (u .bytes) ≡ 32 = search needs in
     let full-k : length (k .bytes) ≡ 40 = search needs in
     let left = front-taken (userOf u) (u .bytes) (p .user-key-len .result) (userOf-front u full-u) (p .user-key-len .ensures) in
-    let right = front-taken (model.user (keyOf k)) (k .bytes) (c .before .before .before .before .before .user-len .result) (user-front k full-k) (c .before .before .before .before .before .user-len .ensures) in
+    let right = front-taken (model.user (keyOf k)) (k .bytes) (c .before .before .before .before .before .before .before .user-len .result) (user-front k full-k) (c .before .before .before .before .before .before .before .user-len .ensures) in
     rw (← left, ← right) (c .order-of .ensures)
 
 pub order-of-user-spec : {M : Type 1} → statement M
@@ -47,7 +41,5 @@ order-of-user-spec =
     (tie.spec
     user-key-len-requires
     user-len-requires
-    slice-aggregate-order-of
-    slice-aggregate-order-of-2
     order-of-requires
     returns)

@@ -16,29 +16,23 @@ user-key-len-requires c κs = search needs
 user-key-len-requires-2 : tie.Need-user-key-len-requires-2
 user-key-len-requires-2 c κs = search needs
 
-slice-aggregate-order-of : tie.Need-slice-aggregate-order-of
-slice-aggregate-order-of c = search needs
-
-slice-aggregate-order-of-2 : tie.Need-slice-aggregate-order-of-2
-slice-aggregate-order-of-2 c = search needs
-
 order-of-requires : tie.Need-order-of-requires
 order-of-requires c κs =
-    let s = c .before .before .before .before .before .before .args in
-    let full-u : length (s .u .bytes) ≡ 32 = search needs in
-    let full-v : length (s .v .bytes) ≡ 32 = search needs in
-    (omega (arith, userOf-length (s .u)), omega arith, omega (arith, userOf-length (s .v)), omega arith)
+    let s = c .before .before .before .before .before .before .before .before .args in
+    let full-u : length (s .t1 .bytes) ≡ 32 = search needs in
+    let full-v : length (s .t2 .bytes) ≡ 32 = search needs in
+    (omega (arith, userOf-length (s .t1)), omega arith, omega (arith, userOf-length (s .t2)), omega arith)
 
 returns : tie.Need-returns
 unfolding model.userBefore
 returns c =
-    let p = c .before .before .before .before .before .before in
-    let u = p .before .args .u in
-    let v = p .before .args .v in
+    let p = c .before .before .before .before .before .before .before .before in
+    let u = p .before .args .t1 in
+    let v = p .before .args .t2 in
     let full-u : length (u .bytes) ≡ 32 = search needs in
     let full-v : length (v .bytes) ≡ 32 = search needs in
     let left = front-taken (userOf u) (u .bytes) (p .user-key-len .result) (userOf-front u full-u) (p .user-key-len .ensures) in
-    let right = front-taken (userOf v) (v .bytes) (c .before .before .before .before .before .user-key-len2 .result) (userOf-front v full-v) (c .before .before .before .before .before .user-key-len2 .ensures) in
+    let right = front-taken (userOf v) (v .bytes) (c .before .before .before .before .before .before .before .user-key-len2 .result) (userOf-front v full-v) (c .before .before .before .before .before .before .before .user-key-len2 .ensures) in
     rw (← left, ← right) (c .order-of .ensures)
 
 pub order-of-user-keys-spec : {M : Type 1} → statement M
@@ -47,7 +41,5 @@ order-of-user-keys-spec =
     (tie.spec
     user-key-len-requires
     user-key-len-requires-2
-    slice-aggregate-order-of
-    slice-aggregate-order-of-2
     order-of-requires
     returns)

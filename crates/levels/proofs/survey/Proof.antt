@@ -154,7 +154,7 @@ loop-less c = omega arith
 loop-again :
     tie.Need-loop-again Inv-loop μ-loop Inv-loop2 μ-loop2 Inv-loop4 μ-loop4 Inv-loop3 μ-loop3
 loop-again c =
-    let l = c .before .before .before .before .before in
+    let l = c .before .before .before .before in
     let e = l .before in
     let files = e .before .before .args .t1 in
     let n = e .before .counted .result in
@@ -162,7 +162,7 @@ loop-again c =
     let column = l .loop .column in
     let q : length files ≡ 256 = search needs in
     let x = getD files i past .number .0 in
-    let t = sym (c .before .before .is-well-formed .ensures) ∙ not-false (c .before .before .is-well-formed .result) (c .before .if2 .left) in
+    let t = sym (c .before .is-well-formed .ensures) ∙ not-false (c .before .is-well-formed .result) (c .if2 .left) in
     let turn : put (set column i x) (i + 1) (numbers (run (i + 1) n files)) ≡ put column i (numbers (run i n files)) =
     put-cons column i x (numbers (run (i + 1) n files)) (omega arith) ∙ ap (put column i) (sym (numbers-turn i n files (omega arith) (omega arith))) in
     (omega arith, length-set column i x ∙ l .loop .inv .1, turn ∙ l .loop .inv .2, sym (all-passed wellRecord i n files past (omega arith) (omega arith) t) ∙ l .loop .inv .3)
