@@ -25,6 +25,7 @@ use Rattle.cutter.specs.declared.Passing.{Passing}
 unfoldable pub cutterOf : Cutter → model.Cutter
 cutterOf m = record { seen = m .seen; place = m .place; count = m .count }
 
+-- and back
 unfoldable pub cutterRecord : model.Cutter → Cutter
 cutterRecord m = record { seen = m .seen; place = m .place; count = m .count }
 

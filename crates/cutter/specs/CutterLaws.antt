@@ -51,6 +51,7 @@ run-drop : (j from to : ℕ) (files : List FileRecord) → drop j (run from to f
 unfolding run
 run-drop j from to files = drop-map fileOf j (slice from to files) ∙ ap (map fileOf) (drop-drop j from (take to files))
 
+-- the first files of a run are a shorter run
 run-take : (n from to : ℕ) (files : List FileRecord) → from + n ≤ to → take n (run from to files) ≡ run from (from + n) files
 unfolding run
 run-take n from to files h =
@@ -99,6 +100,7 @@ any-last : (p : ℕ → Bool) (n : ℕ) → any p (upFrom 0 (suc n)) ≡ (any p 
 unfolding any
 any-last p n = ap (any p) (upFrom-snoc 0 n) ∙ any-append p (upFrom 0 n) ((0 + n) ∷ []) ∙ rw (zero-add n)
 
+-- `or` with what does not hold
 or-false : (b : Bool) → (b || false) ≡ b
 or-false true = refl
 or-false false = refl

@@ -39,9 +39,11 @@ blankPointing = record { level = 0; key = keyRecord [] }
 unfoldable pub deletionOf : Deletion → model.Deletion
 deletionOf d = record { level = d .level; number = d .number .0 }
 
+-- what an addition stands for
 unfoldable pub additionOf : Addition → model.Addition
 additionOf a = record { level = a .level; file = record { number = a .number .0; size = a .size; smallest = keyOf (a .smallest); largest = keyOf (a .largest) } }
 
+-- what a pointer to be set stands for
 unfoldable pub pointingOf : Pointing → model.Pointer
 pointingOf p = record { level = p .level; key = keyOf (p .key) }
 

@@ -33,9 +33,11 @@ use Rattle.edits.specs.Edit.{entries, blankDeletion, blankAddition, blan
 abbrev pub pastPointing : Pointing
 pastPointing = record { level = 0; key = record { bytes = []; len = 0 } }
 
+-- what is read past the deletions
 abbrev pub pastDeletion : Deletion
 pastDeletion = record { level = 0; number = record { 0 = 0 } }
 
+-- what is read past the additions
 abbrev pub pastAddition : Addition
 pastAddition = record { level = 0; number = record { 0 = 0 }; size = 0; smallest = record { bytes = []; len = 0 }; largest = record { bytes = []; len = 0 } }
 

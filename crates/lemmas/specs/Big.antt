@@ -28,6 +28,7 @@ big x (b ∷ bs) = big (x * 256 + b) bs
 first-byte : (c : ℕ) (a : List ℕ) → areBytes (c ∷ a) ≡ true → c < 256
 first-byte c a h = ltb-true c 256 (and-left (ltb c 256) (areBytes a) h)
 
+-- all but the first of some bytes are bytes
 other-bytes : (c : ℕ) (a : List ℕ) → areBytes (c ∷ a) ≡ true → areBytes a ≡ true
 other-bytes c a h = and-right (ltb c 256) (areBytes a) h
 
@@ -73,6 +74,7 @@ big-zero x (c ∷ a) e =
     let z : c ≡ 0 = omega (arith, r .0) in
     (omega (arith, r .0), rw z (r .1))
 
+-- zeros are the number 0
 pub zeros-big : (a : List ℕ) → all (λ b. eqb b 0) a ≡ true → big 0 a ≡ 0
 unfolding big all
 zeros-big [] h = refl

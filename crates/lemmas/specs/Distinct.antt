@@ -45,6 +45,7 @@ module _ (n i e : ℕ) (l : List ℕ) where
 abbrev pub Once : List ℕ → Type 0
 Once l = (i j : ℕ) → i < j → j < length l → getD l i 0 ≡ getD l j 0 → ⊥
 
+-- a number that is no member stands at no place
 absent : (x : ℕ) (l : List ℕ) (j : ℕ) → member x l ≡ false → j < length l → x ≡ getD l j 0 → ⊥
 unfolding member any
 absent x [] j e h q = not-suc-le-zero h
@@ -103,6 +104,7 @@ distinct-rising (x ∷ y ∷ ys) c =
     let r : chain ltb (y ∷ ys) ≡ true = and-right (ltb x y) (chain ltb (y ∷ ys)) c in
     both (not (member x (y ∷ ys))) (distinct (y ∷ ys)) (ap not (rising x y ys k r)) (distinct-rising (y ∷ ys) r)
 
+-- numbers that do not fall and of which none stands twice rise
 rises : (ns : List ℕ) → chain leb ns ≡ true → distinct ns ≡ true → chain ltb ns ≡ true
 unfolding distinct chain member any
 rises [] c d = refl
@@ -157,6 +159,7 @@ onto-ended a b i h = ap (λ (z : List ℕ). distinct (a ++ z)) (take-all i b h)
 
 -- ---- under map
 
+-- membership is kept by a map that keeps numbers apart
 member-map-one : (f : ℕ → ℕ) → ((a b : ℕ) → f a ≡ f b → a ≡ b) → (n : ℕ) (ns : List ℕ) → member (f n) (map f ns) ≡ member n ns
 unfolding member any
 member-map-one f one n [] = refl

@@ -147,6 +147,7 @@ and-swap true true c d = refl
 and-swap true false true d = refl
 and-swap true false false d = refl
 
+-- two tests of each, the second of its image, are two tests of all
 pub all-both : {A B : Type 0} (p : A → Bool) (q : B → Bool) (f : A → B) (xs : List A) → all (λ x. p x && q (f x)) xs ≡ all p xs && all q (map f xs)
 unfolding all
 all-both p q f [] = refl

@@ -241,6 +241,7 @@ pub record Sound (files : List FileRecord) (counts : List ℕ) : Type 0 where
   pub records : all soundRecord (take (sum counts) files) ≡ true
   pub blanks : all isBlank (drop (sum counts) files) ≡ true
 
+-- which the test says
 pub sound-says : (files : List FileRecord) (counts : List ℕ) → soundLevels files counts ≡ true ↔ Sound files counts
 unfolding soundLevels full
 sound-says files counts =
@@ -290,6 +291,7 @@ pub record Well (files : List FileRecord) (counts : List ℕ) : Type 0 where
   pub sound : Sound files counts
   pub good : Good (levelsOf files counts)
 
+-- which the test says
 pub well-says : (files : List FileRecord) (counts : List ℕ) → wellLevels files counts ≡ true ↔ Well files counts
 unfolding wellLevels
 well-says files counts =

@@ -25,6 +25,7 @@ set-past [] i v h = refl
 set-past (x ∷ l) zero v h = absurd (omega arith)
 set-past (x ∷ l) (suc i) v h = ap (λ (t : List ℕ). x ∷ t) (set-past l i v (omega arith))
 
+-- what is set past the end changes nothing
 sets-past : (t l : List ℕ) (i : ℕ) → length l ≤ i → sets l i t ≡ l
 sets-past [] l i h = refl
 sets-past (v ∷ t) l i h = rw (set-past l i v h) (sets-past t l (suc i) (omega arith))
@@ -234,6 +235,7 @@ pub key-in : (k : Key) → k .len ≤ 40 → hexText (keyOf k) ≡ hexText (take
 unfolding keyOf
 key-in k h = let e : k .len - 0 ≡ k .len = omega arith in rw e (ap hexText (held-in 40 (k .bytes) (k .len) h))
 
+-- a user key's bytes in hex, where its length is within its room
 pub user-in : (u : UserKey) → u .len ≤ 32 → hexText (userOf u) ≡ hexText (take (u .len - 0) (u .bytes))
 unfolding userOf
 user-in u h = let e : u .len - 0 ≡ u .len = omega arith in rw e (ap hexText (held-in 32 (u .bytes) (u .len) h))
@@ -243,6 +245,7 @@ pub key-out : (k : Key) → 40 < k .len → hexText (keyOf k) ≡ 45 ∷ []
 unfolding keyOf
 key-out k h = ap hexText (held-out 40 (k .bytes) (k .len) h) ∙ hexText-none [] refl
 
+-- a dash where it is not
 pub user-out : (u : UserKey) → 32 < u .len → hexText (userOf u) ≡ 45 ∷ []
 unfolding userOf
 user-out u h = ap hexText (held-out 32 (u .bytes) (u .len) h) ∙ hexText-none [] refl

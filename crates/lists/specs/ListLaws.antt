@@ -96,6 +96,7 @@ pub record Well (n : ℕ) (l : FileList) : Type 0 where
   pub sound : soundList l ≡ true
   pub good : goodLevel full n (filesOf l) ≡ true
 
+-- which the test says
 pub well-says : (n : ℕ) (l : FileList) → wellList n l ≡ true ↔ Well n l
 unfolding wellList
 well-says n l =

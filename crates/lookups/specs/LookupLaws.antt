@@ -65,6 +65,7 @@ module _ (n : ℕ) (l : FileList) (k : List ℕ) (room : ℕ) where
 pub lookup-first : (n : ℕ) (fs : List File) (k : List ℕ) → n ≡ 0 → lookup n fs k ≡ lookup 0 fs k
 lookup-first n fs k e = ap (λ (m : ℕ). lookup m fs k) e
 
+-- above level 0 the one file that may hold the key
 pub lookup-deeper : (n : ℕ) (fs : List File) (k : List ℕ) → (n ≡ 0 → ⊥) → lookup n fs k ≡ candidate k fs
 unfolding lookup
 lookup-deeper zero fs k h = absurd (h refl)

@@ -258,6 +258,7 @@ pub section-length : {A : Type 0} (w : A → List ℕ) (xs : List A) → length 
 unfolding section
 section-length w xs = omega (arith, length-append (bytes 2 (length xs)) (join (map w xs)), bytes-length 2 (length xs))
 
+-- a section has at most its count and so many bytes for each entry
 section-most : {A : Type 0} (w : A → List ℕ) (c : ℕ) (xs : List A) → ((x : A) → In x xs → length (w x) ≤ c) → length (section w xs) ≤ 2 + length xs * c
 section-most w c xs h = let a = joined-most w c xs h in omega (arith, section-length w xs)
 
@@ -280,6 +281,7 @@ writeFile-length f = omega (
   writeKey-length (f .largest),
 )
 
+-- a file's bytes are at most so many
 file-most : (p : Profile) (f : File) → goodFile p f ≡ true → length (writeFile f) ≤ 2 * p .longest + 34
 file-most p f g = let k = file-facts p f g in omega (arith, writeFile-length f, k .smallest, k .largest)
 
@@ -288,6 +290,7 @@ pub writeEntry-length : (e : Entry) → length (writeEntry e) ≡ 2 + length (e 
 unfolding writeEntry
 writeEntry-length e = omega (arith, length-append (bytes 1 (e .level)) (writeKey (e .key)), bytes-length 1 (e .level), writeKey-length (e .key))
 
+-- a pointer's too
 entry-most : (p : Profile) (e : Entry) → goodKey (p .longest) (e .key) ≡ true → length (writeEntry e) ≤ p .longest + 10
 entry-most p e g = omega (arith, writeEntry-length e, goodKey-says (p .longest) (e .key) .0 g .few-bytes)
 

@@ -32,6 +32,7 @@ unfoldable pub causeOf : Cause → model.Cause
 causeOf (Size x) = model.bySize x
 causeOf Manual = model.manual
 
+-- and back
 unfoldable pub causeRecord : model.Cause → Cause
 causeRecord (model.bySize x) = Size x
 causeRecord model.manual = Manual

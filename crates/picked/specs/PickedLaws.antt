@@ -52,6 +52,7 @@ unfolding causeOf causeRecord
 cause-is (Size x) = refl
 cause-is Manual = refl
 
+-- and the other way round
 pub causeOf-record : (x : model.Cause) → causeOf (causeRecord x) ≡ x
 unfolding causeOf causeRecord
 causeOf-record (model.bySize x) = refl
@@ -153,6 +154,7 @@ pub record Well (c : Picked) : Type 0 where
   pub sound : levels.Sound (c .files) (countsIn c)
   pub good : GoodPicked full (pickedOf c)
 
+-- which the test says
 pub well-says : (c : Picked) → wellPicked c ≡ true ↔ Well c
 unfolding wellPicked soundPicked
 well-says c =
@@ -376,6 +378,7 @@ unfolding asLevels
 levels-first zero a b c e = refl
 levels-first (suc l) a b c e = absurd (omega arith)
 
+-- above level 0 they stand from level 1 on
 pub levels-deeper : (l a b c : ℕ) → (l ≡ 0 → ⊥) → asLevels l a b c ≡ 0 ∷ a ∷ b ∷ c ∷ 0 ∷ 0 ∷ 0 ∷ []
 unfolding asLevels
 levels-deeper zero a b c h = absurd (h refl)
@@ -420,6 +423,7 @@ five-left f true true u false e = clash e refl
 five-left f true false u d e = clash e refl
 five-left f false b u d e = clash e refl
 
+-- five tests fail where three of them do
 five-fail : (f a b u d : Bool) → a && b && d ≡ false → f && a && b && u && d ≡ false
 five-fail false a b u d e = refl
 five-fail true false b u d e = refl

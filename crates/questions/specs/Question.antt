@@ -20,6 +20,7 @@ use Rattle.questions.specs.declared.Leveled.the-variants.{Level, Refused
 unfoldable pub askedOf : Asked → Option (List ℕ)
 askedOf m = cond (m .any) (some (userOf (m .user))) none
 
+-- and back
 unfoldable pub askedRecord : Option (List ℕ) → Asked
 askedRecord none = record { any = false; user = userRecord [] }
 askedRecord (some u) = record { any = true; user = userRecord u }

@@ -81,6 +81,7 @@ sum-split zero cs = omega arith
 sum-split (suc k) [] = refl
 sum-split (suc k) (c ∷ cs) = omega (arith, sum-split k cs)
 
+-- the levels from one on are those of the places from where it starts
 levels-cut : (files : List FileRecord) (counts : List ℕ) (k : ℕ) → drop k (levelsOf files counts) ≡ levelsOf (drop (sum (take k counts)) files) (drop k counts)
 unfolding levelsOf
 levels-cut files counts k = drop-map (map fileOf) k (parts files counts) ∙ ap (map (map fileOf)) (drop-parts files counts k)

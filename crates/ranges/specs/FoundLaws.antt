@@ -92,9 +92,11 @@ unfolding largestOf leastFrom
 largest-is k [] = refl
 largest-is k (f ∷ fs) = largest-is (cond (before k (f .largest)) (f .largest) k) fs
 
+-- of files this is their smallest key
 low-is : (f : File) (fs : List File) → leastFrom before (λ f. f .smallest) (f .smallest) fs ≡ lowKey (f ∷ fs)
 low-is f fs = sym (low-fold f fs ∙ smallest-is (f .smallest) fs)
 
+-- and, by the order turned round, their largest
 high-is : (f : File) (fs : List File) → leastFrom (λ a b. before b a) (λ f. f .largest) (f .largest) fs ≡ highKey (f ∷ fs)
 high-is f fs = sym (high-fold f fs ∙ largest-is (f .largest) fs)
 
@@ -155,6 +157,7 @@ low-one : (f : File) → lowKey (f ∷ []) ≡ f .smallest
 unfolding smallestOf
 low-one f = low-fold f []
 
+-- and the largest
 high-one : (f : File) → highKey (f ∷ []) ≡ f .largest
 unfolding largestOf
 high-one f = high-fold f []
@@ -165,14 +168,17 @@ up-next : (m t : ℕ) (f : File) (fs : List File) → upTo m t (f ∷ fs) ≡ f 
 unfolding upTo restTo
 up-next m t f fs = refl
 
+-- none is taken above the limit
 rest-above : (m t : ℕ) (fs : List File) → m < t → restTo m t fs ≡ []
 unfolding restTo
 rest-above m t fs h = rw (lt-ltb m t h)
 
+-- up to the limit all that `upTo` takes
 rest-below : (m t : ℕ) (fs : List File) → t ≤ m → restTo m t fs ≡ upTo m t fs
 unfolding restTo
 rest-below m t fs h = rw (le-ltb m t h)
 
+-- of no files none
 rest-none : (m t : ℕ) → restTo m t [] ≡ []
 unfolding restTo upTo
 rest-none m t = go (ltb m t)
@@ -437,6 +443,7 @@ pub overlapping-first : (n : ℕ) (fs : List File) (r w : Range) → n ≡ 0 →
 unfolding overlapping
 overlapping-first n fs r w e f = rw (e, f)
 
+-- above level 0 those that overlap the range itself
 pub overlapping-deeper : (n : ℕ) (fs : List File) (r : Range) → (n ≡ 0 → ⊥) → keep (overlaps r) fs ≡ overlapping n fs r
 unfolding overlapping
 overlapping-deeper zero fs r e = absurd (e refl)
@@ -453,17 +460,19 @@ record Held-by (k : Key) : Type 0 where
   holder : keys.Key
   holds : keyOf holder ≡ k
 
+-- of two records' keys the one that a test takes
 one : (t : Bool) (a b : keys.Key) → Held-by (cond t (keyOf b) (keyOf a))
 one true a b = record { holder = b; holds = refl }
 one false a b = record { holder = a; holds = refl }
 
--- the smaller and the larger of two records' keys are held by one of them
+-- the smaller of two records' keys is held by one of them
 low-held : (n m : ℕ) (a b : keys.Key) → Held-by (lowWith n (keyOf a) m (keyOf b))
 unfolding lowWith
 low-held n zero a b = record { holder = a; holds = refl }
 low-held zero (suc m) a b = record { holder = b; holds = refl }
 low-held (suc n) (suc m) a b = one (before (keyOf b) (keyOf a)) a b
 
+-- so is the larger
 high-held : (n m : ℕ) (a b : keys.Key) → Held-by (highWith n (keyOf a) m (keyOf b))
 unfolding highWith
 high-held n zero a b = record { holder = a; holds = refl }

@@ -85,6 +85,7 @@ pub record Sound (r : FileRecord) : Type 0 where
   pub largest : soundKey (r .largest) ≡ true
   pub seeks : r .seeks ≡ seeks (r .size)
 
+-- which the test says
 pub sound-says : (r : FileRecord) → soundRecord r ≡ true ↔ Sound r
 unfolding soundRecord
 sound-says r =
@@ -126,6 +127,7 @@ blank-key-is k q h =
     let e : keyOf k ≡ [] = rw n (key.held-in 40 (k .bytes) 0 (omega arith)) in
     key.sound-is k q (and-right (eqb (k .len) 0) (soundKey k) h) ∙ ap keyRecord e
 
+-- the record of no key is blank
 blank-key-blank : blankKey (keyRecord []) ≡ true
 unfolding blankKey keyRecord
 blank-key-blank = both (eqb (keyRecord [] .len) 0) (soundKey (keyRecord [])) refl (key.record-sound [] (omega arith))
@@ -138,6 +140,7 @@ pub record Blank (r : FileRecord) : Type 0 where
   pub smallest : blankKey (r .smallest) ≡ true
   pub largest : blankKey (r .largest) ≡ true
 
+-- which the test says
 pub blank-says : (r : FileRecord) → isBlank r ≡ true ↔ Blank r
 unfolding isBlank
 blank-says r =
@@ -174,6 +177,7 @@ pub blank-blank : isBlank blank ≡ true
 unfolding blank
 blank-blank = blank-says blank .1 record { number = refl; size = refl; seeks = refl; smallest = blank-key-blank; largest = blank-key-blank }
 
+-- the blank record has its shape
 pub blank-shaped : Shaped blank
 unfolding blank
 blank-shaped = record { smallest = key.keyRecord-length [] (omega arith); largest = key.keyRecord-length [] (omega arith) }
@@ -229,12 +233,14 @@ files-of-records [] h = refl
 files-of-records (f ∷ fs) h =
     rw (fileOf-record f (and-left (goodFile full f) (all (goodFile full) fs) h), files-of-records fs (and-right (goodFile full f) (all (goodFile full) fs) h))
 
+-- well-formed files' records are well-formed
 pub records-well : (fs : List File) → all (goodFile full) fs ≡ true → all wellRecord (map recordOf fs) ≡ true
 unfolding all
 records-well [] h = refl
 records-well (f ∷ fs) h =
     both (wellRecord (recordOf f)) (all wellRecord (map recordOf fs)) (record-well f (and-left (goodFile full f) (all (goodFile full) fs) h)) (records-well fs (and-right (goodFile full f) (all (goodFile full) fs) h))
 
+-- and have their shape
 pub records-shaped : (fs : List File) → all (goodFile full) fs ≡ true → AllShaped (map recordOf fs)
 unfolding all Each
 records-shaped [] h = tt

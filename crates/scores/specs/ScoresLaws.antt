@@ -141,6 +141,7 @@ module _ (sc : ℕ → Score) (n best l : ℕ) where
 
 -- ---- the amounts of a state: files at level 0, bytes deeper
 
+-- the amounts of all levels: files at level 0, bytes deeper
 abbrev pub amountsOf : State → List ℕ
 amountsOf t = set (map total (t .files)) 0 (length (level t 0))
 
@@ -215,6 +216,7 @@ state-ill : (t : State) → wellFormed full t ≡ false → calls.needsCompactio
 unfolding calls.needsCompaction firstOf _⇒_
 state-ill t e = rw e
 
+-- 14 where the store is not well-formed
 pub work-ill : (s : Store) → wellStore s ≡ false → workOf (refused 14) ≡ workOf (onStore s (calls.needsCompaction full))
 work-ill s h = ap workOf (sym (store.onStore-ill s (calls.needsCompaction full) (state-ill (stateOf s)) h))
 
@@ -230,6 +232,7 @@ pub score-one : toBits binary64 (reported (scoreAt 1 10485760)) ≡ 0x3ff0_0000_
 unfolding scoreAt wholeOf byteLimit reported toBits div ofInt round units odd size span climb
 score-one = refl
 
+-- one byte less than the limit
 pub score-below : toBits binary64 (reported (scoreAt 1 10485759)) ≡ 0x3fef_ffff_cccc_cccd
 unfolding scoreAt wholeOf byteLimit reported toBits div ofInt round units odd size span climb
 score-below = refl

@@ -23,6 +23,7 @@ use Rattle.store.specs.declared.Handed.{Handed}
 unfoldable pub pointerOf : Pointer → Option (List ℕ)
 pointerOf p = cond (p .set) (some (keyOf (p .key))) none
 
+-- and back
 unfoldable pub pointerRecord : Option (List ℕ) → Pointer
 pointerRecord none = record { set = false; key = keyRecord [] }
 pointerRecord (some k) = record { set = true; key = keyRecord k }

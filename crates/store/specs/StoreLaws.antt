@@ -105,12 +105,14 @@ pointers-are [] s h = refl
 pointers-are (p ∷ ps) s h =
     cc (pointer-is p (s .0) (and-left (soundPointer p) (all soundPointer ps) h), pointers-are ps (s .1) (and-right (soundPointer p) (all soundPointer ps) h))
 
+-- pointers are read back from their records
 pub pointers-of-records : (os : List (Option (List ℕ))) → all (goodPointer full) os ≡ true → map pointerOf (map pointerRecord os) ≡ os
 unfolding all
 pointers-of-records [] h = refl
 pointers-of-records (o ∷ os) h =
     rw (pointerOf-record o (and-left (goodPointer full o) (all (goodPointer full) os) h), pointers-of-records os (and-right (goodPointer full o) (all (goodPointer full) os) h))
 
+-- which are sound
 pub pointer-records-sound : (os : List (Option (List ℕ))) → all (goodPointer full) os ≡ true → all soundPointer (map pointerRecord os) ≡ true
 unfolding all
 pointer-records-sound [] h = refl
@@ -118,6 +120,7 @@ pointer-records-sound (o ∷ os) h =
     both (soundPointer (pointerRecord o)) (all soundPointer (map pointerRecord os)) (pointer-record-sound o (and-left (goodPointer full o) (all (goodPointer full) os) h))
     (pointer-records-sound os (and-right (goodPointer full o) (all (goodPointer full) os) h))
 
+-- and have their shape
 pub pointer-records-shaped : (os : List (Option (List ℕ))) → all (goodPointer full) os ≡ true → Each PointerShaped (map pointerRecord os)
 unfolding all Each
 pointer-records-shaped [] h = tt
@@ -144,6 +147,7 @@ pub record Sound (s : Store) : Type 0 where
   pub levels : soundLevels (s .files) (s .counts) ≡ true
   pub pointers : all soundPointer (s .pointers) ≡ true
 
+-- which the test says
 pub sound-says : (s : Store) → soundStore s ≡ true ↔ Sound s
 unfolding soundStore
 sound-says s =
@@ -212,6 +216,7 @@ pub record Well (s : Store) : Type 0 where
   pub sound : soundStore s ≡ true
   pub formed : wellFormed full (stateOf s) ≡ true
 
+-- which the test says
 pub well-says : (s : Store) → wellStore s ≡ true ↔ Well s
 unfolding wellStore
 well-says s =

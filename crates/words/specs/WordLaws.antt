@@ -87,6 +87,7 @@ same-says [] (y ∷ b) e = clash e refl
 same-says (x ∷ a) [] e = clash e refl
 same-says (x ∷ a) (y ∷ b) e = cc (eqb-true x y (and-left (eqb x y) (same a b) e), same-says a b (and-right (eqb x y) (same a b) e))
 
+-- a text is the same as itself
 pub same-self : (a : List ℕ) → same a a ≡ true
 unfolding same
 same-self [] = refl
@@ -165,10 +166,12 @@ pub digit-low : (c : ℕ) → c < 48 → isDigit c ≡ false
 unfolding isDigit
 digit-low c h = rw (lt-leb 48 c h)
 
+-- a byte above 9 is no digit
 pub digit-high : (c : ℕ) → 48 ≤ c → 57 < c → isDigit c ≡ false
 unfolding isDigit
 digit-high c k h = rw (le-leb 48 c k, lt-leb c 57 h)
 
+-- a byte from 0 to 9 is one
 pub digit-in : (c : ℕ) → 48 ≤ c → c ≤ 57 → isDigit c ≡ true
 unfolding isDigit
 digit-in c k h = rw (le-leb 48 c k, le-leb c 57 h)
@@ -226,12 +229,14 @@ pub hexBytes-length : (line : List ℕ) (from to : ℕ) → length (hexBytes lin
 unfolding hexBytes
 hexBytes-length line from to = places-length (λ i. hexByte (getD line (from + 2 * i) 0) (getD line (from + 2 * i + 1) 0)) 0 ((to - from) / 2)
 
+-- the byte of two hex digits
 pub hexBytes-at : (line : List ℕ) (from to i : ℕ) → i < (to - from) / 2 → getD (hexBytes line from to) i 0 ≡ hexByte (getD line (from + 2 * i) 0) (getD line (from + 2 * i + 1) 0)
 unfolding hexBytes
 hexBytes-at line from to i h =
     places-at (λ i. hexByte (getD line (from + 2 * i) 0) (getD line (from + 2 * i + 1) 0)) 0 ((to - from) / 2) i h
     ∙ let e : 0 + i ≡ i = omega arith in rw e
 
+-- none past the last two
 pub hexBytes-past : (line : List ℕ) (from to i : ℕ) → (to - from) / 2 ≤ i → getD (hexBytes line from to) i 0 ≡ 0
 hexBytes-past line from to i h = getD-past (hexBytes line from to) i (omega (arith, hexBytes-length line from to))
 
@@ -240,6 +245,7 @@ pub forty-at : (k : List ℕ) (i : ℕ) → i < 40 → getD (forty k) i 0 ≡ ge
 unfolding forty
 forty-at k i h = places-at (λ j. getD k j 0) 0 40 i h ∙ let e : 0 + i ≡ i = omega arith in rw e
 
+-- as many as a key has room for
 pub forty-length : (k : List ℕ) → length (forty k) ≡ 40
 unfolding forty
 forty-length k = places-length (λ j. getD k j 0) 0 40
@@ -261,6 +267,7 @@ bytes-later (suc w) x (suc i) h k =
     let f : suc i - 1 ≡ i = omega arith in
     rw (e, f)
 
+-- zeros past the bytes of a number
 pub bytes-past : (w x i : ℕ) → w ≤ i → getD (bytes w x) i 0 ≡ 0
 bytes-past w x i h = getD-past (bytes w x) i (omega (arith, bytes-length w x))
 
@@ -270,6 +277,7 @@ joined-first [] b i h = absurd (omega arith)
 joined-first (x ∷ a) b zero h = refl
 joined-first (x ∷ a) b (suc i) h = joined-first a b i (omega arith)
 
+-- past the first of two texts stands the second
 pub joined-second : (a b : List ℕ) (i : ℕ) → length a ≤ i → getD (a ++ b) i 0 ≡ getD b (i - length a) 0
 joined-second [] b i h = let e : i - 0 ≡ i = omega arith in rw e
 joined-second (x ∷ a) b zero h = absurd (omega arith)
@@ -312,6 +320,7 @@ pub hex-digit-no : (x b v : ℕ) → b ≡ x → v ≡ hexValue b → 15 < v →
 unfolding isHexDigit
 hex-digit-no x b v e f h = let q : v ≡ hexValue x = f ∙ ap hexValue e in le-ltb (hexValue x) 16 (omega arith)
 
+-- a byte with a value up to 15 is a hex digit
 pub hex-digit-yes : (x b v : ℕ) → b ≡ x → v ≡ hexValue b → v ≤ 15 → isHexDigit x ≡ true
 unfolding isHexDigit
 hex-digit-yes x b v e f h = let q : v ≡ hexValue x = f ∙ ap hexValue e in lt-ltb (hexValue x) 16 (omega arith)

@@ -273,6 +273,7 @@ levels-records files counts q h =
     let good = rw (levels.files-of-levels files counts (omega arith)) at (w .good .fits .good) in
     records.well-list-is (take n files) ∙ both (all soundRecord (take n files)) (all (goodFile full) (map fileOf (take n files))) (w .sound .records) good
 
+-- each record of well-formed levels is well-formed
 pub level-record : (files : List FileRecord) (counts : List ℕ) (i : ℕ) → length files ≡ 256 → wellLevels files counts ≡ true → i < sum counts → wellRecord (getD files i records.past) ≡ true
 level-record files counts i q h k =
     let n = sum counts in
