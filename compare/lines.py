@@ -21,10 +21,10 @@ def main():
     functions = public = bare = 0
     for path in sorted(ROOT.glob('*/src/**/*.rt')):
         lines['code'] += counted(path, '//')
-        for head in re.findall(r'^ *((?:pub )?fn .*?) ?\{$', path.read_text(), re.M | re.S):
+        for head in re.findall(r'^ *((?:pub(?:\([a-z]+\))? )?fn .*?) ?\{$', path.read_text(), re.M | re.S):
             functions += 1
-            public += head.startswith('pub')
-            bare += head.startswith('pub') and 'ensures' not in head
+            public += head.startswith('pub ')
+            bare += head.startswith('pub ') and 'ensures' not in head
     for path in sorted(ROOT.glob('*/specs/**/*.antt')):
         crate, module = path.relative_to(ROOT).parts[0], path.stem
         law = crate == 'lemmas' or module.endswith('Laws') or (crate, module) in LAWS
