@@ -324,7 +324,7 @@ fn three_grandparents(level: usize) -> Picked {
     counted(p, 1, 0, 3)
 }
 
-// A cutter in the midst of its work.
+// A cutter by its parts.
 fn memory(seen: bool, place: usize, count: u64) -> Cutter {
     Cutter {
         seen: seen,

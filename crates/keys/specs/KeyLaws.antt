@@ -23,7 +23,7 @@ use Rattle.keys.specs.declared.UserKey.{UserKey}
 use Rattle.octets.specs.declared.Order.the-variants.{Less, Equal, Greater}
 use Rattle.octets.specs.Octets.{isZero, standing}
 use Rattle.octets.specs.Standing.{stands-less, stands-greater, standing-less, standing-equal, standing-greater}
-use Rattle.keys.specs.Key.{held, keyOf, userOf, padded, keyRecord, userRecord, sound, soundKey, soundUser, larger, laid}
+use Rattle.keys.specs.Key.{held, keyOf, userOf, padded, keyRecord, userRecord, sound, soundKey, larger, laid}
 
 -- ---- what a record holds
 module _ (room : ℕ) (bytes : List ℕ) (len : ℕ) where
@@ -196,28 +196,10 @@ pub userOf-bytes : (u : UserKey) → areBytes (u .bytes) ≡ true → areBytes (
 unfolding userOf
 userOf-bytes u q = held-bytes 32 (u .bytes) (u .len) q
 
--- what is kept of a user key fills the room
-pub userRecord-length : (x : List ℕ) → length x ≤ 32 → length (userRecord x .bytes) ≡ 32
-unfolding userRecord
-userRecord-length x h = padded-length 32 x h
-
 -- what is kept of a user key stands for that user key
 pub userOf-record : (x : List ℕ) → length x ≤ 32 → userOf (userRecord x) ≡ x
 unfolding userOf userRecord
 userOf-record x h = held-padded 32 x h
-
--- what is kept of a user key is sound
-pub user-record-sound : (x : List ℕ) → length x ≤ 32 → soundUser (userRecord x) ≡ true
-unfolding soundUser userRecord
-user-record-sound x h = sound-padded 32 x h
-
--- one user key has one sound record
-pub sound-user-is : (u : UserKey) → length (u .bytes) ≡ 32 → soundUser u ≡ true → u ≡ userRecord (userOf u)
-unfolding userOf userRecord soundUser
-sound-user-is u q s =
-    let p : u .bytes ≡ padded 32 (held 32 (u .bytes) (u .len)) = sym (padded-held 32 (u .bytes) (u .len) q s) in
-    let n : u .len ≡ length (held 32 (u .bytes) (u .len)) = sym (sound-held 32 (u .bytes) (u .len) q s) in
-    λ i. record { bytes = p i; len = n i }
 
 -- ---- the user key of an internal key
 -- all but eight bytes
@@ -301,17 +283,6 @@ good-user-is longest u h e = rw (le-leb (length u) longest h, e) (true-right (le
 pub good-length : (x : List ℕ) → model.goodKey (full .longest) x ≡ true → length x ≤ 40
 unfolding full
 good-length x g = good-says 32 x g .short
-
--- a good key's user key is a good user key
-pub user-good : (longest : ℕ) (x : List ℕ) → model.goodKey longest x ≡ true → model.goodUser longest (model.user x) ≡ true
-unfolding model.goodUser model.user
-user-good longest x g =
-    let s = good-says longest x g in
-    let u = take (length x - 8) x in
-    let n : length u ≡ length x - 8 = omega (arith, length-take (length x - 8) x) in
-    both (leb 1 (length u) && leb (length u) longest) (areBytes u)
-    (both (leb 1 (length u)) (leb (length u) longest) (le-leb 1 (length u) (omega (arith, s .long))) (le-leb (length u) longest (omega (arith, s .short))))
-    (bytes-take (length x - 8) x (s .of-bytes))
 
 -- ---- how two internal keys stand: by their user keys, then the larger rank first
 module _ (a b : List ℕ) where

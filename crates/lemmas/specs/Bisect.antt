@@ -2,7 +2,7 @@
 use Prim.Native.Nat.{ℕ, zero, suc, _+_, _-_, _/_, _≤_, _<_}
 use mathlib.Core.Path.{_≡_, refl, sym, _∙_, ap}
 use mathlib.Core.Bool.{Bool, true, false, not, cond}
-use mathlib.Core.List.{List, map}
+use mathlib.Core.List.{List}
 use native.Mathlib.Omega.{arith}
 use native.Mathlib.Decide.{decLt}
 use native.Mathlib.Numerals.{add-one}
@@ -14,7 +14,6 @@ use Rattle.lemmas.specs.Order.{clash}
 use Rattle.lemmas.specs.Lists.{chain}
 use Rattle.lemmas.specs.Slices.{at-run}
 use Rattle.lemmas.specs.Loops.{before-first, first-is, chain-at}
-use Rattle.lemmas.specs.Maps.{first-map}
 
 -- bisecting lo to hi, in at most n steps: past the middle where the test passes there
 unfoldable pub bisect : (ℕ → Bool) → ℕ → ℕ → ℕ → ℕ

@@ -2,7 +2,7 @@
 use Prim.Native.Nat.{ℕ, zero, suc, _+_, _<_}
 use mathlib.Core.List.{List, [], _∷_, _++_}
 use native.Mathlib.Nat.{le-of-suc-le-suc, not-suc-le-zero}
-use lib.ListN.{length, getD, take, drop, set, replicate}
+use lib.ListN.{length, getD, take, drop, replicate}
 use lib.Seq.{slice}
 use Rattle.lemmas.specs.Slices.{put}
 
@@ -35,7 +35,7 @@ module _ {A : Type 0} (P : A → Type 0) where
   pub each-slice : (i n : ℕ) (xs : List A) → Each P xs → Each P (slice i n xs)
   each-slice i n xs e = each-drop i (take n xs) (each-take n xs e)
 
-  -- of two lists, of a list laid over another, of a list with one element stored, of one element repeated
+  -- of two lists, of a list laid over another, of one element repeated
   pub each-append : (xs ys : List A) → Each P xs → Each P ys → Each P (xs ++ ys)
   unfolding Each
   each-append [] ys e f = f
@@ -44,12 +44,6 @@ module _ {A : Type 0} (P : A → Type 0) where
   pub each-put : (d : List A) (at : ℕ) (s : List A) → Each P d → Each P s → Each P (put d at s)
   unfolding put
   each-put d at s e f = each-append (take at d) (s ++ drop (at + length s) d) (each-take at d e) (each-append s (drop (at + length s) d) f (each-drop (at + length s) d e))
-
-  pub each-set : (xs : List A) (i : ℕ) (x : A) → Each P xs → P x → Each P (set xs i x)
-  unfolding Each
-  each-set [] i x e p = tt
-  each-set (y ∷ ys) zero x e p = (p, e .1)
-  each-set (y ∷ ys) (suc i) x e p = (e .0, each-set ys i x (e .1) p)
 
   pub each-replicate : (n : ℕ) (x : A) → P x → Each P (replicate n x)
   unfolding Each

@@ -5,14 +5,14 @@ use mathlib.Core.Bool.{true}
 use mathlib.Core.List.{List, [], _∷_, _++_}
 use native.Mathlib.Omega.{arith}
 use native.Mathlib.Numerals.{add-one}
-use native.Mathlib.Nat.{zero-add, suc-add, pow-succ', pow-le-pow-right, mul-assoc, div-div-eq-div-mul, div-one}
+use native.Mathlib.Nat.{pow-succ', pow-le-pow-right, div-div-eq-div-mul, div-one}
 use lib.Dec.{ltb}
-use lib.ListN.{length, getD, set, take, drop, take-append-drop}
+use lib.ListN.{length, getD, set, drop}
 use lib.Pow.{areBytes}
-use lib.Seq.{slice, length-take-le, take-suc}
+use lib.Seq.{slice}
 use borrow.Author.Tests.{lt-ltb, ltb-true}
 use Rattle.lemmas.specs.ListLaws.{and-left, and-right, both}
-use Rattle.lemmas.specs.Slices.{put, put-cons, put-nil, rest-cons, run-cons, run-end, drop-next}
+use Rattle.lemmas.specs.Slices.{put, put-cons, put-nil, rest-cons, run-end, drop-next}
 
 -- a little-endian number: its value, and its bytes at a width
 unfoldable pub number : List ℕ → ℕ
@@ -74,25 +74,6 @@ number-bound (b ∷ l) h =
     let ih = number-bound l (and-right (ltb b 256) (areBytes l) h) in
     omega (arith, pow-succ' 256 (length l))
 
--- the bytes of the number that bytes make
-pub number-bytes : (l : List ℕ) → areBytes l ≡ true → bytes (length l) (number l) ≡ l
-unfolding number bytes
-number-bytes [] h = refl
-number-bytes (b ∷ l) h =
-    let k : b < 256 = ltb-true b 256 (and-left (ltb b 256) (areBytes l) h) in
-    let low : (b + 256 * number l) % 256 ≡ b = omega arith in
-    let high : (b + 256 * number l) / 256 ≡ number l = omega arith in
-    rw (low, high, number-bytes l (and-right (ltb b 256) (areBytes l) h))
-
--- two numbers of bytes one after the other
-pub number-append : (a b : List ℕ) → number (a ++ b) ≡ number a + 256 ^ length a * number b
-unfolding number
-number-append [] b = omega arith
-number-append (x ∷ a) b =
-    let e : 256 ^ suc (length a) * number b ≡ 256 * (256 ^ length a * number b) =
-    ap (λ (n : ℕ). n * number b) (pow-succ' 256 (length a)) ∙ mul-assoc 256 (256 ^ length a) (number b) in
-    omega (arith, number-append a b)
-
 -- ---- reading, from the top down: what is read so far, and one byte more below it
 
 -- the bytes from j on
@@ -136,13 +117,3 @@ byte-at (suc w) n zero h = ap (λ (k : ℕ). k % 256) (sym (div-one n))
 byte-at (suc w) n (suc j) h =
     byte-at w (n / 256) j (omega arith)
     ∙ ap (λ (k : ℕ). k % 256) (div-div-eq-div-mul n 256 (256 ^ j) ∙ ap (λ (k : ℕ). n / k) (sym (pow-succ' 256 j)))
-
--- the bytes of a number at a width, as those of two widths
-pub bytes-append : (w v n : ℕ) → bytes (w + v) n ≡ bytes w n ++ bytes v (n / 256 ^ w)
-unfolding bytes
-bytes-append zero v n = rw (zero-add v) (ap (bytes v) (sym (div-one n)))
-bytes-append (suc w) v n =
-    rw (suc-add w v)
-    (ap (λ (r : List ℕ). n % 256 ∷ r)
-    (bytes-append w v (n / 256)
-    ∙ ap (λ (k : ℕ). bytes w (n / 256) ++ bytes v k) (div-div-eq-div-mul n 256 (256 ^ w) ∙ ap (λ (k : ℕ). n / k) (sym (pow-succ' 256 w)))))

@@ -1,20 +1,20 @@
 -- What a loop over a run has to say at each turn: for each list function of Lists, its value over the run from i to e by the element at i and the run from i + 1.
 -- A law is stated over the list of what the elements stand for, `map f (slice i e l)`, and below it over the plain run. Assumes nothing.
-use Prim.Native.Nat.{ℕ, zero, suc, _+_, _≤_, _<_, min}
+use Prim.Native.Nat.{ℕ, zero, suc, _+_, _≤_, _<_}
 use mathlib.Core.Path.{_≡_, refl, sym, ap, _∙_}
 use mathlib.Core.Bool.{Bool, true, false, cond}
 use mathlib.Core.List.{List, [], _∷_, map}
-use mathlib.Core.Option.{none, some}
+use mathlib.Core.Option.{some}
 use mathlib.Core.Logic.{_⊎_, inl, inr}
 use native.Mathlib.Omega.{arith}
 use native.Mathlib.Numerals.{add-one}
 use lib.Dec.{ltb}
 use borrow.Author.Tests.{ltb-true, ltb-false}
 use lib.ListN.{length, getD, set}
-use lib.Seq.{slice, length-slice}
+use lib.Seq.{slice}
 use Rattle.lemmas.specs.Order.{clash}
-use Rattle.lemmas.specs.ListLaws.{and-left, and-right, both}
-use Rattle.lemmas.specs.Lists.{push, keep, any, all, find, chain, sum}
+use Rattle.lemmas.specs.ListLaws.{and-left, and-right}
+use Rattle.lemmas.specs.Lists.{push, keep, any, all, find, chain}
 use Rattle.lemmas.specs.Slices.{put, put-cons, put-nil, run-cons, run-end, drop-view, view-end, length-view}
 
 -- how two numbers stand
@@ -232,13 +232,6 @@ chain-at {A} r xs i d c h = rw add-one (go xs i c (omega arith))
     go (x ∷ []) i c h = absurd (omega arith)
     go (x ∷ y ∷ ys) zero c h = and-left (r x y) (chain r (y ∷ ys)) c
     go (x ∷ y ∷ ys) (suc i) c h = go (y ∷ ys) i (and-right (r x y) (chain r (y ∷ ys)) c) (omega arith)
-
--- and back
-pub chain-of : {A : Type 0} (r : A → A → Bool) (xs : List A) (d : A) → ((i : ℕ) → i + 1 < length xs → r (getD xs i d) (getD xs (i + 1) d) ≡ true) → chain r xs ≡ true
-unfolding chain
-chain-of r [] d h = refl
-chain-of r (x ∷ []) d h = refl
-chain-of r (x ∷ y ∷ ys) d h = both (r x y) (chain r (y ∷ ys)) (h 0 (omega arith)) (chain-of r (y ∷ ys) d (λ i k. rw (add-one i) (rw (add-one (suc i)) at (h (suc i) (omega arith)))))
 
 module _ {A B : Type 0} (f : A → B) (r : B → B → Bool) (i e : ℕ) (l : List A) (d : A) where
   module _ (h : i + 1 < e) (k : e ≤ length l) where

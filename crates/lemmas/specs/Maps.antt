@@ -2,15 +2,14 @@
 use Prim.Native.Nat.{ℕ, zero, suc, _+_}
 use mathlib.Core.Path.{_≡_, refl, sym, ap, _∙_}
 use mathlib.Core.Bool.{Bool, true, false, not, _&&_, _||_, cond}
-use mathlib.Core.List.{List, [], _∷_, _++_, map, map-append, append-assoc, append-nil, List·Memᴰ as In, List·Memᴰ·head as here, List·Memᴰ·tail as there, List·Memᴰ·not-nil as not-nil, List·Memᴰ·append-cases as append-cases}
+use mathlib.Core.List.{List, [], _∷_, _++_, map, map-append, List·Memᴰ as In, List·Memᴰ·head as here, List·Memᴰ·tail as there, List·Memᴰ·not-nil as not-nil, List·Memᴰ·append-cases as append-cases}
 use mathlib.Core.Option.{some, Option·map}
 use mathlib.Core.Logic.{_⊎_, inl, inr}
-use native.Mathlib.Omega.{arith}
 use lib.ListN.{length, getD, set, take, drop, replicate, length-map}
 use borrow.Author.Tests.{not-true}
 use Rattle.lemmas.specs.Order.{clash, StrictWeak}
 use Rattle.lemmas.specs.Lists.{push, keep, any, all, find, insert, sort, chain, join}
-use Rattle.lemmas.specs.ListLaws.{and-left, and-right, both, sort-in}
+use Rattle.lemmas.specs.ListLaws.{and-left, and-right, sort-in}
 use Rattle.lemmas.specs.Slices.{openPart}
 use Rattle.lemmas.specs.Loops.{before-first}
 
@@ -125,11 +124,6 @@ module _ {A : Type 0} (p q : A → Bool) where
   any-same [] h = refl
   any-same (x ∷ xs) h = rw (h x (here refl), any-same xs (λ y m. h y (there m)))
 
-  pub all-same : (xs : List A) → ((x : A) → In x xs → p x ≡ q x) → all p xs ≡ all q xs
-  unfolding all
-  all-same [] h = refl
-  all-same (x ∷ xs) h = rw (h x (here refl), all-same xs (λ y m. h y (there m)))
-
   pub find-same : (xs : List A) → ((x : A) → In x xs → p x ≡ q x) → find p xs ≡ find q xs
   unfolding find
   find-same [] h = refl
@@ -171,28 +165,10 @@ module _ {A : Type 0} (r s : A → A → Bool) where
 
 -- by orders that agree
 module _ {A : Type 0} (r s : A → A → Bool) (h : (x y : A) → r x y ≡ s x y) where
-  pub chain-same : (xs : List A) → chain r xs ≡ chain s xs
-  unfolding chain
-  chain-same [] = refl
-  chain-same (x ∷ []) = refl
-  chain-same (x ∷ y ∷ ys) = rw (h x y, chain-same (y ∷ ys))
-
   pub sort-same : (xs : List A) → sort r xs ≡ sort s xs
   sort-same xs = sort-same-in r s xs (λ x y m n. h x y)
 
 module _ {A : Type 0} (p : A → Bool) where
-  -- a test that always holds, and one that never does
-  pub all-true : (xs : List A) → ((x : A) → In x xs → p x ≡ true) → all p xs ≡ true
-  unfolding all
-  all-true [] h = refl
-  all-true (x ∷ xs) h = both (p x) (all p xs) (h x (here refl)) (all-true xs (λ y m. h y (there m)))
-
-  -- a test that never holds
-  pub any-false : (xs : List A) → ((x : A) → In x xs → p x ≡ false) → any p xs ≡ false
-  unfolding any
-  any-false [] h = refl
-  any-false (x ∷ xs) h = rw (h x (here refl)) (any-false xs (λ y m. h y (there m)))
-
   -- all pass, so all are kept
   pub keep-all : (xs : List A) → all p xs ≡ true → keep p xs ≡ xs
   unfolding keep all push
@@ -250,11 +226,6 @@ module _ {A : Type 0} (p : A → Bool) where
   any-join [] = refl
   any-join (xs ∷ xss) = any-append xs (join xss) ∙ ap (λ b. any p xs || b) (any-join xss)
 
-  pub keep-join : (xss : List (List A)) → keep p (join xss) ≡ join (map (keep p) xss)
-  unfolding join keep
-  keep-join [] = refl
-  keep-join (xs ∷ xss) = keep-append xs (join xss) ∙ ap (λ (r : List A). keep p xs ++ r) (keep-join xss)
-
 -- what stands in lists joined, each made of an item, stands in one of them
 pub of-join-map : {A B : Type 0} (g : A → List B) (xs : List A) (y : B) → In y (join (map g xs)) → (x : A) × In x xs × In y (g x)
 unfolding join
@@ -282,11 +253,6 @@ module _ {A : Type 0} (lt : A → A → Bool) where
   insertAfter x [] = x ∷ []
   insertAfter x (y ∷ ys) = cond (lt x y) (x ∷ y ∷ ys) (y ∷ insertAfter x ys)
 
-  -- each of the second list so put into the first, in turn
-  unfoldable pub insertAll : List A → List A → List A
-  insertAll xs [] = xs
-  insertAll xs (y ∷ ys) = insertAll (insertAfter y xs) ys
-
   -- by places: the number of those before it, and the opening there
   pub insertAfter-at : (x : A) (ys : List A) → insertAfter x ys ≡ take (before-first (lt x) ys) ys ++ (x ∷ drop (before-first (lt x) ys) ys)
   unfolding insertAfter before-first
@@ -303,22 +269,6 @@ module _ {A : Type 0} (lt : A → A → Bool) where
   pub insertAfter-part : (ls : List (List A)) (k : ℕ) (x : A) → openPart ls k (before-first (lt x) (getD ls k [])) x ≡ set ls k (insertAfter x (getD ls k []))
   unfolding openPart
   insertAfter-part ls k x = ap (set ls k) (sym (insertAfter-at x (getD ls k [])))
-
-  -- one longer
-  pub insertAfter-length : (x : A) (ys : List A) → length (insertAfter x ys) ≡ suc (length ys)
-  unfolding insertAfter
-  insertAfter-length x [] = refl
-  insertAfter-length x (y ∷ ys) = go (lt x y) (insertAfter-length x ys)
-    where
-      go : (t : Bool) → length (insertAfter x ys) ≡ suc (length ys) → length (cond t (x ∷ y ∷ ys) (y ∷ insertAfter x ys)) ≡ suc (suc (length ys))
-      go true ih = refl
-      go false ih = ap suc ih
-
-  -- longer by the second list
-  pub insertAll-length : (xs ys : List A) → length (insertAll xs ys) ≡ length xs + length ys
-  unfolding insertAll
-  insertAll-length xs [] = omega arith
-  insertAll-length xs (y ∷ ys) = omega (arith, insertAll-length (insertAfter y xs) ys, insertAfter-length y xs)
 
   module _ (o : StrictWeak lt) where
     -- an item from the front and one from the end may go in in either order
@@ -342,28 +292,3 @@ module _ {A : Type 0} (lt : A → A → Bool) where
     unfolding sort insertAfter insert
     sort-snoc [] x = refl
     sort-snoc (a ∷ xs) x = ap (insert lt a) (sort-snoc xs x) ∙ insert-swap a x (sort lt xs)
-
-    -- more items at the end go in one by one
-    pub sort-onto : (xs ys : List A) → sort lt (xs ++ ys) ≡ insertAll (sort lt xs) ys
-    unfolding insertAll
-    sort-onto xs [] = ap (sort lt) (append-nil xs)
-    sort-onto xs (y ∷ ys) =
-        ap (sort lt) (sym (append-assoc xs (y ∷ []) ys)) ∙ sort-onto (xs ++ (y ∷ [])) ys ∙ ap (λ (r : List A). insertAll r ys) (sort-snoc xs y)
-
-module _ {A B : Type 0} (f : A → B) (lt : B → B → Bool) where
-  -- both under map
-  pub insertAfter-map : (x : A) (ys : List A) → insertAfter lt (f x) (map f ys) ≡ map f (insertAfter (λ a b. lt (f a) (f b)) x ys)
-  unfolding insertAfter
-  insertAfter-map x [] = refl
-  insertAfter-map x (y ∷ ys) = go (lt (f x) (f y)) (insertAfter-map x ys)
-    where
-      go : (t : Bool) → insertAfter lt (f x) (map f ys) ≡ map f (insertAfter (λ a b. lt (f a) (f b)) x ys)
-          → cond t (f x ∷ f y ∷ map f ys) (f y ∷ insertAfter lt (f x) (map f ys)) ≡ map f (cond t (x ∷ y ∷ ys) (y ∷ insertAfter (λ a b. lt (f a) (f b)) x ys))
-      go true ih = refl
-      go false ih = ap (λ (r : List B). f y ∷ r) ih
-
-  pub insertAll-map : (xs ys : List A) → insertAll lt (map f xs) (map f ys) ≡ map f (insertAll (λ a b. lt (f a) (f b)) xs ys)
-  unfolding insertAll
-  insertAll-map xs [] = refl
-  insertAll-map xs (y ∷ ys) =
-      ap (λ (r : List B). insertAll lt r (map f ys)) (insertAfter-map y xs) ∙ insertAll-map (insertAfter (λ a b. lt (f a) (f b)) y xs) ys

@@ -9,7 +9,7 @@ use native.Mathlib.Nat.{le-antisymm, le-refl, suc-add, add-suc, add-zero, zero-a
 use lib.Dec.{leb}
 use borrow.Author.Tests.{leb-true, leb-false}
 use lib.ListN.{length, take, drop, getD, set, replicate, take-append-drop, length-append, length-take, length-drop, length-map, drop-of-length-le, List·getD-map, List·getD-append}
-use lib.Seq.{sets, sets-eq, take-all, take-length, slice, slice-cons, slice-empty, take-suc-set, take-set-lt, drop-set-lt, append-snoc, set-split, length-slice, length-take-le, take-at, drop-at, drop-append-add, drop-append-le, drop-append-seam, take-append-add, take-append-le, take-append-seam, drop-drop, take-take, take-add, drop-cons, drop-length, take-nil, getD-take, getD-drop}
+use lib.Seq.{take-all, take-length, slice, slice-cons, slice-empty, take-suc-set, take-set-lt, drop-set-lt, append-snoc, set-split, length-slice, length-take-le, take-at, drop-at, drop-append-add, drop-append-le, drop-append-seam, take-append-add, take-append-le, take-append-seam, drop-drop, take-take, take-add, drop-cons, drop-length, take-nil, getD-take, getD-drop}
 use Rattle.lemmas.specs.Lists.{join, sum}
 
 module _ {A : Type 0} where
@@ -135,11 +135,6 @@ module _ {A : Type 0} where
   pub take-put : (d : List A) (at : ℕ) (s : List A) → at ≤ length d → take at (put d at s) ≡ take at d
   unfolding put
   take-put d at s h = take-at (take at d) (s ++ drop (at + length s) d) at (length-take-le at d h)
-
-  -- and so is a run that ends before it
-  pub slice-put-before : (d : List A) (at : ℕ) (s : List A) → at ≤ length d → (i e : ℕ) → e ≤ at → slice i e (put d at s) ≡ slice i e d
-  slice-put-before d at s h i e k =
-      ap (drop i) (sym (take-take e at (put d at s) k) ∙ ap (take e) (take-put d at s h) ∙ take-take e at d k)
 
   -- laid over a second time, with no less
   pub put-put : (d : List A) (at : ℕ) (s t : List A) → at ≤ length d → length s ≤ length t → put (put d at s) at t ≡ put d at t

@@ -12,7 +12,7 @@ use Rattle.lemmas.specs.Lists.{all, sum}
 use Rattle.lemmas.specs.ListLaws.{all-in, getD-in}
 use Rattle.lemmas.specs.Slices.{length-put, in-front, getD-map, sum-next, sum-take}
 use Rattle.lemmas.specs.Maps.{map-set}
-use Rattle.model.specs.File.{File, full, level, total, maxSize, goodFile, setPointer}
+use Rattle.model.specs.File.{File, full, total, maxSize, goodFile, setPointer}
 use Rattle.model.specs.Formed.{goodFile-says}
 use Rattle.keys.specs.Key.{keyRecord}
 use Rattle.records.specs.Record.{fileOf}

@@ -13,7 +13,6 @@ use Rattle.lemmas.specs.ListLaws.{getD-in}
 use Rattle.lemmas.specs.Slices.{put, put-cons, put-nil, put-front, length-put, take-put, slice-put, run-join, in-front, drop-view, run-past}
 use Rattle.records.specs.Record.{fileOf, recordOf, soundRecord}
 use Rattle.records.specs.RecordLaws.{past, Shaped, AllShaped, sound-list}
-use Rattle.records.specs.Run.{run}
 use Rattle.records.specs.declared.FileRecord.{FileRecord}
 use Rattle.ranges.specs.declared.Places.{Places}
 use Rattle.ranges.specs.Ranges.{listedAt, placesOf, laying, joinedPlaces, Placed, recordsAt, fileAt, filesAt}

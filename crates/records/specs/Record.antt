@@ -1,9 +1,9 @@
 -- What a file record stands for, and the one record that is kept of a file. Assumes nothing.
 use Prim.Native.Nat.{ℕ, _+_, _-_}
-use mathlib.Core.Bool.{Bool, true, false, _&&_, cond}
-use mathlib.Core.List.{List, [], _∷_}
+use mathlib.Core.Bool.{Bool, _&&_, cond}
+use mathlib.Core.List.{List, []}
 use lib.Dec.{ltb, leb, eqb}
-use lib.ListN.{length, replicate}
+use lib.ListN.{replicate}
 use Rattle.model.specs.File.{File, full, seeks, goodFile}
 use Rattle.model.specs.Score.{byteLimit}
 use Rattle.keys.specs.Key.{keyOf, keyRecord, soundKey}

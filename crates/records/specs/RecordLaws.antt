@@ -1,18 +1,17 @@
 -- Laws of records: one file has one sound record, the blank record is one, which records an array holds, and what a run of it stands for. Assumes nothing.
-use Prim.Native.Nat.{ℕ, zero, suc, _+_, _*_, _^_, _≤_, _<_, min, zero-le}
+use Prim.Native.Nat.{ℕ, zero, suc, _+_, _*_, _^_, _≤_, _<_, min}
 use mathlib.Core.Path.{_≡_, refl, sym, ap, _∙_}
 use mathlib.Core.Logic.{_↔_}
 use mathlib.Core.Bool.{true, _&&_, cond}
 use mathlib.Core.List.{List, [], _∷_, map}
 use native.Mathlib.Omega.{arith}
-use native.Mathlib.Nat.{zero-add}
 use lib.Dec.{eqb}
 use lib.ListN.{length, getD, take, drop, replicate, length-map}
 use lib.Seq.{slice, length-slice, length-take-le, take-append-le, take-take}
 use borrow.Author.Tests.{eqb-true, eq-eqb}
 use Rattle.lemmas.specs.Lists.{all, find, sum}
 use Rattle.lemmas.specs.ListLaws.{and-left, and-right, both, all-in}
-use Rattle.lemmas.specs.Slices.{put, put-front, drop-view, run-past, run-within, slice-map, slice-put, slice-put-before}
+use Rattle.lemmas.specs.Slices.{put, put-front, drop-view, run-past, run-within, slice-map}
 use Rattle.lemmas.specs.Maps.{all-both}
 use Rattle.lemmas.specs.Each.{Each}
 use Rattle.model.specs.File.{File, full, seeks, total, numbers, goodFile, maxSize}
@@ -323,22 +322,6 @@ module _ (i e : ℕ) (files : List FileRecord) where
       let n : length (run i e files) ≤ 256 = omega (arith, length-map (slice i e files) fileOf, length-slice i e files (omega arith)) in
       let m = total-most (run i e files) (λ f t. file-facts full f (all-in (goodFile full) (run i e files) .0 g f t) .size) in
       omega arith
-
--- ---- runs of an array over which records were laid
-module _ (d : List FileRecord) (at : ℕ) (s : List FileRecord) (h : at ≤ length d) where
-  -- the run where they lie is their files
-  pub run-put : run at (at + length s) (put d at s) ≡ map fileOf s
-  unfolding run
-  run-put = ap (map fileOf) (slice-put d at s h)
-
-  -- a run that ends before them is as it was
-  pub run-put-before : (i e : ℕ) → e ≤ at → run i e (put d at s) ≡ run i e d
-  unfolding run
-  run-put-before i e k = ap (map fileOf) (slice-put-before d at s h i e k)
-
--- laid over the front
-pub run-put-front : (d s : List FileRecord) → run 0 (length s) (put d 0 s) ≡ map fileOf s
-run-put-front d s = rw zero-add at (run-put d 0 s zero-le)
 
 -- ---- columns of numbers
 

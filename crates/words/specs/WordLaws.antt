@@ -1,21 +1,20 @@
 -- Laws of words: what a loop over a run says at each turn, and what the records of keys hold. Assumes nothing.
 use Prim.Native.Nat.{ℕ, zero, suc, _+_, _-_, _*_, _/_, _%_, _≤_, _<_}
 use mathlib.Core.Path.{_≡_, refl, sym, ap, _∙_}
-use mathlib.Core.Bool.{Bool, true, false, _&&_, not, cond}
+use mathlib.Core.Bool.{Bool, true, false, _&&_, cond}
 use mathlib.Core.List.{List, [], _∷_, _++_, map, append-nil}
 use native.Mathlib.Omega.{arith}
 use native.Mathlib.Numerals.{add-one}
-use lib.Dec.{ltb, leb, eqb}
+use lib.Dec.{leb}
 use lib.ListN.{length, getD, take, drop, set, length-map, length-append, drop-of-length-le}
-use lib.Seq.{getD-append-add, take-all, take-length, drop-cons}
-use borrow.Author.Tests.{ltb-true, ltb-false, lt-ltb, le-ltb, leb-true, leb-false, le-leb, lt-leb, eqb-true, eq-eqb, ne-eqb}
+use lib.Seq.{take-all}
+use borrow.Author.Tests.{lt-ltb, le-ltb, leb-true, leb-false, le-leb, lt-leb, eq-eqb, ne-eqb}
 use Rattle.lemmas.specs.Order.{clash}
 use Rattle.lemmas.specs.Lists.{all, isEmpty, upFrom}
-use Rattle.lemmas.specs.ListLaws.{and-left, and-right, both}
 use Rattle.lemmas.specs.Slices.{drop-next}
 use Rattle.lemmas.specs.Fronts.{lay-turn}
 use Rattle.lemmas.specs.Little.{bytes, bytes-length}
-use Rattle.lemmas.specs.Loops.{before-first, before-first-le, first-here, first-later, all-here, all-later}
+use Rattle.lemmas.specs.Loops.{before-first, first-here, first-later, all-here, all-later}
 use Rattle.lemmas.specs.UpFrom.{upFrom-turn, upFrom-end, upFrom-length}
 use Rattle.words.specs.declared.NumberWord.{NumberWord}
 use Rattle.words.specs.Words.{wordOf, same, isByte, lastPlace, isDigit, valueAfter, noNumber, numberAfter, numberWord, hexValue, isHexDigit, isHex, hexByte, hexBytes, forty, fineKey, noKey, trailerOf, trailerWord, sealed, keyWord, internalKey, fineUser, noUser, userWord}
@@ -79,20 +78,6 @@ module _ (line : List ℕ) (i to b found : ℕ) where
   last-end h = rw (word-end line i to h)
 
 -- ---- a run that is a text
--- the test says so
-pub same-says : (a b : List ℕ) → same a b ≡ true → a ≡ b
-unfolding same
-same-says [] [] e = refl
-same-says [] (y ∷ b) e = clash e refl
-same-says (x ∷ a) [] e = clash e refl
-same-says (x ∷ a) (y ∷ b) e = cc (eqb-true x y (and-left (eqb x y) (same a b) e), same-says a b (and-right (eqb x y) (same a b) e))
-
--- a text is the same as itself
-pub same-self : (a : List ℕ) → same a a ≡ true
-unfolding same
-same-self [] = refl
-same-self (x ∷ a) = both (eqb x x) (same a a) (eq-eqb x x refl) (same-self a)
-
 module _ (line : List ℕ) (at to : ℕ) (text : List ℕ) (i : ℕ) where
   -- the run ends before the text
   pub same-short : to ≤ at → i < length text → same (wordOf line at to) (drop i text) ≡ false

@@ -1,13 +1,11 @@
 -- The words of a script's line, and the record that each stands for. A word is a run of a line, from a place up to another. Assumes nothing.
-use Prim.Native.Nat.{ℕ, zero, suc, _+_, _-_, _*_, _/_, _%_}
+use Prim.Native.Nat.{ℕ, _+_, _-_, _*_, _/_, _%_}
 use mathlib.Core.Bool.{Bool, true, false, _&&_, not, cond}
 use mathlib.Core.List.{List, [], _∷_, _++_, map}
 use lib.Dec.{ltb, leb, eqb}
 use lib.ListN.{length, getD, take}
 use Rattle.lemmas.specs.Lists.{all, isEmpty, upFrom}
 use Rattle.lemmas.specs.Little.{bytes}
-use Rattle.keys.specs.declared.Key.{Key}
-use Rattle.keys.specs.declared.UserKey.{UserKey}
 use Rattle.words.specs.declared.NumberWord.{NumberWord}
 use Rattle.words.specs.declared.KeyWord.{KeyWord}
 use Rattle.words.specs.declared.UserWord.{UserWord}

@@ -1,6 +1,5 @@
 -- `bench::bench_write` ends and is safe. Assumes nothing.
-use Prim.Native.Nat.{_≤_, _<_, _+_, _-_}
-use lib.ListN.{length}
+use Prim.Native.Nat.{_≤_, _<_, _-_}
 use borrow.Author.Needs.{needs}
 use mathlib.Core.Logic.{⊎-elim}
 use native.Mathlib.Omega.{arith}

@@ -1,5 +1,5 @@
 -- `bench::cam_key` ends and is safe. Assumes nothing.
-use Prim.Native.Nat.{_≤_, _<_, _+_, _-_}
+use Prim.Native.Nat.{_≤_, _-_}
 use borrow.Author.Needs.{needs}
 use Rattle.bench.proofs.cam_key.Statement.{statement}
 use Rattle.bench.proofs.cam_key.Tie as tie

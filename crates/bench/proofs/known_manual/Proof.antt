@@ -1,5 +1,5 @@
 -- `bench::known_manual` leaves a well-formed store. Assumes nothing.
-use mathlib.Core.Path.{_≡_, sym, ap, _∙_}
+use mathlib.Core.Path.{ap, _∙_}
 use borrow.Author.Needs.{needs}
 use Rattle.keys.specs.Key.{keyOf}
 use Rattle.store.specs.Store.{wellStore}

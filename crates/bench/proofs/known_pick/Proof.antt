@@ -1,6 +1,5 @@
 -- `bench::known_pick` leaves a well-formed store. Assumes nothing.
-use mathlib.Core.Path.{_≡_, sym, ap, _∙_}
-use mathlib.Core.Bool.{Bool}
+use mathlib.Core.Path.{ap, _∙_}
 use borrow.Author.Needs.{needs}
 use Rattle.store.specs.Store.{wellStore}
 use Rattle.picked.specs.declared.Pick.{Pick}

@@ -1,7 +1,5 @@
 -- `counters::are_bounded` meets its contract. Assumes nothing.
-use mathlib.Core.Path.{_≡_, refl, sym, _∙_}
-use mathlib.Core.Bool.{Bool, true, false, _&&_}
-use lib.Dec.{leb}
+use mathlib.Core.Path.{sym}
 use borrow.Author.Tests.{le-leb, lt-leb}
 use Rattle.lemmas.specs.Lists.{all}
 use Rattle.lemmas.specs.ListLaws.{and-true}

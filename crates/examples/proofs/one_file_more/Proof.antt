@@ -1,5 +1,5 @@
 -- `examples::one_file_more` ends and is safe. Assumes nothing.
-use Prim.Native.Nat.{_≤_, _<_, _+_, _-_}
+use Prim.Native.Nat.{_≤_, _-_}
 use borrow.Author.Needs.{needs}
 use Rattle.examples.proofs.one_file_more.Statement.{statement}
 use Rattle.examples.proofs.one_file_more.Tie as tie

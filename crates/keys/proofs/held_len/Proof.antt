@@ -1,5 +1,4 @@
 -- `keys::held_len` meets its contract. Assumes nothing.
-use mathlib.Core.Path.{refl}
 use borrow.Author.Tests.{le-leb, lt-leb}
 use Rattle.keys.proofs.held_len.Statement.{statement}
 use Rattle.keys.proofs.held_len.Tie as tie

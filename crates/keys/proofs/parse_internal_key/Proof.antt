@@ -1,16 +1,13 @@
 -- `keys::parse_internal_key` meets its contract. Assumes nothing.
-use mathlib.Core.Path.{_≡_, refl, sym, _∙_, ap}
-use mathlib.Core.List.{List, []}
-use Prim.Native.Nat.{ℕ}
-use mathlib.Core.Bool.{true, false}
+use mathlib.Core.Path.{_≡_, sym, _∙_}
+use mathlib.Core.Bool.{true}
 use borrow.Author.Needs.{needs}
 use borrow.Author.Tests.{not-true, not-false}
-use lib.ListN.{take, length}
 use Rattle.model.specs.Answer.{firstOf, _⇒_}
 use Rattle.model.specs.Key.{goodKey, parts, user}
 use Rattle.model.specs.File.{full}
 use Rattle.model.specs.Calls.{parseKey}
-use Rattle.keys.specs.Key.{keyOf, held, userRecord}
+use Rattle.keys.specs.Key.{keyOf, held}
 use Rattle.keys.specs.KeyCalls.{parsed}
 use Rattle.keys.proofs.parse_internal_key.Statement.{statement}
 use Rattle.keys.proofs.parse_internal_key.Tie as tie

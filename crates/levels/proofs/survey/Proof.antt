@@ -3,7 +3,6 @@
 use Prim.Native.Nat.{ℕ, _+_, _-_, _≤_}
 use mathlib.Core.Path.{_≡_, refl, sym, ap, _∙_}
 use mathlib.Core.Bool.{true, false, _&&_}
-use mathlib.Core.List.{map}
 use native.Mathlib.Omega.{arith}
 use borrow.Author.Needs.{needs}
 use borrow.Author.Tests.{not-true, not-false}
@@ -13,7 +12,7 @@ use Rattle.lemmas.specs.Lists.{all, sum}
 use Rattle.lemmas.specs.Slices.{put, put-cons, put-nil, rest-cons, run-past, sum-turn}
 use Rattle.lemmas.specs.Loops.{all-found, all-passed, all-here, all-later}
 use Rattle.model.specs.File.{inOrder, levelwise, numbers}
-use Rattle.records.specs.Record.{fileOf, wellRecord, isBlank}
+use Rattle.records.specs.Record.{wellRecord, isBlank}
 use Rattle.records.specs.RecordLaws.{past, numbers-turn, numbers-ended}
 use Rattle.records.specs.Run.{run}
 use Rattle.records.proofs.Shape.{all-words}

@@ -1,5 +1,5 @@
 -- `lines::put_hex` meets its contract. The loop's invariant: the bytes before i are laid in hex. Assumes nothing.
-use Prim.Native.Nat.{_-_, _≤_, _<_, _/_, _%_}
+use Prim.Native.Nat.{_-_, _≤_, _<_}
 use mathlib.Core.Path.{_≡_, refl, _∙_}
 use native.Mathlib.Omega.{arith}
 use lib.ListN.{length, take, getD}

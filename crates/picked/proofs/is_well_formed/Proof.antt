@@ -1,8 +1,7 @@
 -- `picked::is_well_formed` meets its contract. Assumes nothing.
 use Prim.Native.Nat.{ℕ, _+_, _≤_}
 use mathlib.Core.Path.{_≡_, sym, ap, _∙_}
-use mathlib.Core.Bool.{true, false, _&&_}
-use mathlib.Core.List.{List}
+use mathlib.Core.Bool.{true, _&&_}
 use native.Mathlib.Omega.{arith}
 use borrow.Author.Needs.{needs}
 use borrow.Author.Tests.{not-true, not-false}
@@ -13,7 +12,7 @@ use Rattle.records.specs.Run.{run}
 use Rattle.levels.specs.Levels.{arranged, surveyOf}
 use Rattle.levels.specs.LevelsLaws.{survey-arranged, survey-all, arranged-room}
 use Rattle.levels.specs.declared.Surveyed.{Surveyed}
-use Rattle.picked.specs.Picked.{wellPicked, framed, asLevels, listsIn, countsIn, distinctRuns, distinctLists}
+use Rattle.picked.specs.Picked.{wellPicked, framed, asLevels, listsIn, countsIn, distinctLists}
 use Rattle.picked.specs.PickedLaws.{levels-sum, distinct-runs, well-unarranged, well-arranged}
 use Rattle.picked.proofs.Shape.{shape, words}
 use Rattle.picked.proofs.is_well_formed.Statement.{statement}

@@ -1,9 +1,8 @@
 -- `records::is_blank` meets its contract. Assumes nothing.
-use mathlib.Core.Path.{_≡_, refl, sym, _∙_}
-use mathlib.Core.Bool.{true, false}
+use mathlib.Core.Path.{sym, _∙_}
 use borrow.Author.Needs.{needs}
 use borrow.Author.Tests.{eq-eqb, ne-eqb, not-true, not-false}
-use Rattle.records.specs.Record.{isBlank, blankKey}
+use Rattle.records.specs.Record.{isBlank}
 use Rattle.records.proofs.is_blank.Statement.{statement}
 use Rattle.records.proofs.is_blank.Tie as tie
 

@@ -1,5 +1,4 @@
 -- `records::record` meets its contract. Assumes nothing.
-use mathlib.Core.Path.{refl, sym, _∙_}
 use borrow.Author.Needs.{needs}
 use Rattle.records.specs.Record.{recordOf}
 use Rattle.records.proofs.record.Statement.{statement}

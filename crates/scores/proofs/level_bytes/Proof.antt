@@ -1,7 +1,7 @@
 -- `scores::level_bytes` meets its contract. The outer loop's invariant: the bytes of the levels from this one on, laid down from its place on, give the
 -- whole answer. The inner loop's: the bytes so far and those of the level's files from i on are the level's. Assumes nothing.
 use Prim.Native.Nat.{_+_, _-_, _*_, _^_, _≤_}
-use mathlib.Core.Path.{_≡_, refl, sym, ap, _∙_}
+use mathlib.Core.Path.{_≡_, refl, sym, _∙_}
 use mathlib.Core.List.{map}
 use native.Mathlib.Omega.{arith}
 use borrow.Author.Needs.{needs}

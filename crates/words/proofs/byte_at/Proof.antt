@@ -1,5 +1,5 @@
 -- `words::byte_at` meets its contract. Past the end it is 0. Assumes nothing.
-use mathlib.Core.Path.{_≡_, refl, sym, ap, _∙_}
+use mathlib.Core.Path.{sym}
 use borrow.Author.Needs.{needs}
 use Rattle.words.specs.WordLaws.{getD-past}
 use Rattle.words.proofs.byte_at.Statement.{statement}

@@ -1,11 +1,11 @@
 -- `words::hex_byte` meets its contract. By the two digits. Assumes nothing.
-use Prim.Native.Nat.{ℕ, suc, _+_, _-_, _*_, _/_, _%_, _≤_, _<_}
-use mathlib.Core.Path.{_≡_, refl, sym, ap, _∙_}
+use Prim.Native.Nat.{_+_, _-_}
+use mathlib.Core.Path.{_≡_, sym, ap, _∙_}
 use mathlib.Core.Bool.{true}
 use native.Mathlib.Omega.{arith}
-use lib.ListN.{length, getD, take, drop, set, length-set}
+use lib.ListN.{getD}
 use borrow.Author.Needs.{needs}
-use Rattle.words.specs.Words.{hexValue, isHexDigit, hexByte}
+use Rattle.words.specs.Words.{hexValue, isHexDigit}
 use Rattle.words.specs.WordLaws.{getD-past, hexByte-zero, hexByte-first, hexByte-second, hexByte-both, hex-digit-no, hex-digit-yes}
 use Rattle.words.proofs.hex_byte.Statement.{statement}
 use Rattle.words.proofs.hex_byte.Tie as tie

@@ -1,5 +1,4 @@
 -- `words::hex_digit` meets its contract. By the range of digits. Assumes nothing.
-use mathlib.Core.Path.{_≡_, refl, sym, ap, _∙_}
 use borrow.Author.Tests.{lt-ltb, le-ltb, le-leb, lt-leb}
 use borrow.Author.Needs.{needs}
 use Rattle.words.specs.Words.{hexValue}

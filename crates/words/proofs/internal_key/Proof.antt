@@ -1,12 +1,11 @@
 -- `words::internal_key` meets its contract. By the three forms of a key. Assumes nothing.
-use Prim.Native.Nat.{ℕ, suc, _+_, _-_, _*_, _/_, _%_, _≤_, _<_}
-use mathlib.Core.Path.{_≡_, refl, sym, ap, _∙_}
+use Prim.Native.Nat.{_-_, _/_}
+use mathlib.Core.Path.{sym, _∙_}
 use native.Mathlib.Omega.{arith}
-use lib.ListN.{length, getD, take, drop, set, length-set}
 use borrow.Author.Needs.{needs}
 use borrow.Author.Tests.{not-true, not-false}
 use Rattle.lemmas.specs.Lists.{upFrom}
-use Rattle.words.specs.Words.{wordOf, hexBytes, fineKey, forty}
+use Rattle.words.specs.Words.{hexBytes, fineKey, forty}
 use Rattle.words.specs.WordLaws.{key-none, key-text, key-hex, key-bad, hexBytes-length, fineKey-is}
 use Rattle.words.proofs.internal_key.Statement.{statement}
 use Rattle.words.proofs.internal_key.Tie as tie

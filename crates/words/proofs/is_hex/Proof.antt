@@ -1,8 +1,7 @@
 -- `words::is_hex` meets its contract. The loop's invariant: the rest has hex digits alone exactly if the run is hex. Assumes nothing.
-use Prim.Native.Nat.{ℕ, suc, _+_, _-_, _*_, _/_, _%_, _≤_, _<_}
-use mathlib.Core.Path.{_≡_, refl, sym, ap, _∙_}
-use native.Mathlib.Omega.{arith}
-use lib.ListN.{length, getD, take, drop, set, length-set}
+use Prim.Native.Nat.{_-_}
+use mathlib.Core.Path.{_≡_, sym, _∙_}
+use lib.ListN.{getD}
 use borrow.Author.Needs.{needs}
 use Rattle.lemmas.specs.Lists.{all}
 use Rattle.words.specs.Words.{wordOf, isHexDigit, isHex}

@@ -1,8 +1,8 @@
 -- `words::is_word` meets its contract. The loop's invariant: the rest of the run is the rest of the text exactly if the run is the text. Assumes nothing.
-use Prim.Native.Nat.{ℕ, suc, _+_, _-_, _*_, _/_, _%_, _≤_, _<_}
-use mathlib.Core.Path.{_≡_, refl, sym, ap, _∙_}
+use Prim.Native.Nat.{_-_, _≤_}
+use mathlib.Core.Path.{_≡_, refl, sym, _∙_}
 use native.Mathlib.Omega.{arith}
-use lib.ListN.{length, getD, take, drop, set, length-set}
+use lib.ListN.{length, drop}
 use borrow.Author.Needs.{needs}
 use Rattle.words.specs.Words.{wordOf, same}
 use Rattle.words.specs.WordLaws.{same-short, same-other, same-later, same-end}

@@ -1,8 +1,7 @@
 -- `words::last_place_of` meets its contract. The loop's invariant: the last place of the rest, or the one found, is the last of the run. Assumes nothing.
-use Prim.Native.Nat.{ℕ, suc, _+_, _-_, _*_, _/_, _%_, _≤_, _<_}
+use Prim.Native.Nat.{ℕ, _+_, _-_}
 use mathlib.Core.Path.{_≡_, refl, sym, ap, _∙_}
 use mathlib.Core.Logic.{⊎-elim}
-use native.Mathlib.Omega.{arith}
 use borrow.Author.Needs.{needs}
 use Rattle.words.specs.Words.{wordOf, lastPlace}
 use Rattle.words.specs.WordLaws.{last-here, last-later, last-end}

@@ -1,8 +1,8 @@
 -- `words::low_byte` meets its contract. The loop's invariant: the byte at i - j of what is left is the byte at i. Assumes nothing.
-use Prim.Native.Nat.{ℕ, suc, _+_, _-_, _*_, _/_, _%_, _≤_, _<_}
-use mathlib.Core.Path.{_≡_, refl, sym, ap, _∙_}
+use Prim.Native.Nat.{_+_, _-_, _≤_}
+use mathlib.Core.Path.{_≡_, sym, _∙_}
 use native.Mathlib.Omega.{arith}
-use lib.ListN.{length, getD, take, drop, set, length-set}
+use lib.ListN.{getD}
 use borrow.Author.Needs.{needs}
 use Rattle.lemmas.specs.Little.{bytes}
 use Rattle.words.specs.WordLaws.{bytes-first, bytes-later, bytes-past}

@@ -1,7 +1,7 @@
 -- `words::next_digit` meets its contract. The largest number of the machine bounds the sum. Assumes nothing.
-use Prim.Native.Nat.{ℕ, suc, _+_, _-_, _*_, _/_, _%_, _≤_, _<_}
+use Prim.Native.Nat.{_+_, _-_, _*_}
 use native.Mathlib.Omega.{arith}
-use borrow.Author.Tests.{lt-ltb, le-ltb, le-leb, lt-leb}
+use borrow.Author.Tests.{le-leb, lt-leb}
 use borrow.Author.Needs.{needs}
 use Rattle.words.specs.Words.{noNumber}
 use Rattle.words.proofs.next_digit.Statement.{statement}

@@ -1,6 +1,5 @@
 -- `words::no_key` meets its contract. As it is defined. Assumes nothing.
-use mathlib.Core.Path.{_≡_, refl, sym, ap, _∙_}
-use borrow.Author.Needs.{needs}
+use mathlib.Core.Path.{refl}
 use Rattle.lemmas.specs.Lists.{upFrom}
 use Rattle.words.specs.Words.{noKey, forty}
 use Rattle.words.proofs.no_key.Statement.{statement}

@@ -1,6 +1,5 @@
 -- `words::no_number` meets its contract. As it is defined. Assumes nothing.
-use mathlib.Core.Path.{_≡_, refl, sym, ap, _∙_}
-use borrow.Author.Needs.{needs}
+use mathlib.Core.Path.{refl}
 use Rattle.words.specs.Words.{noNumber}
 use Rattle.words.proofs.no_number.Statement.{statement}
 use Rattle.words.proofs.no_number.Tie as tie

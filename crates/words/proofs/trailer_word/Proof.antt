@@ -1,8 +1,6 @@
 -- `words::trailer_word` meets its contract. By the last byte. Assumes nothing.
-use Prim.Native.Nat.{ℕ, suc, _+_, _-_, _*_, _/_, _%_, _≤_, _<_}
-use mathlib.Core.Path.{_≡_, refl, sym, ap, _∙_}
-use native.Mathlib.Omega.{arith}
-use lib.ListN.{length, getD, take, drop, set, length-set}
+use Prim.Native.Nat.{_-_}
+use mathlib.Core.Path.{sym, _∙_}
 use borrow.Author.Needs.{needs}
 use Rattle.words.specs.WordLaws.{trailer-empty, trailer-deleted, trailer-put}
 use Rattle.words.proofs.trailer_word.Statement.{statement}

@@ -1,8 +1,6 @@
 -- `words::user_key` meets its contract. By the three forms of a user key. Assumes nothing.
-use Prim.Native.Nat.{ℕ, suc, _+_, _-_, _*_, _/_, _%_, _≤_, _<_}
-use mathlib.Core.Path.{_≡_, refl, sym, ap, _∙_}
-use native.Mathlib.Omega.{arith}
-use lib.ListN.{length, getD, take, drop, set, length-set}
+use Prim.Native.Nat.{_+_, _-_, _/_}
+use mathlib.Core.Path.{sym, _∙_}
 use borrow.Author.Needs.{needs}
 use Rattle.lemmas.specs.Lists.{upFrom}
 use Rattle.words.specs.Words.{wordOf, hexBytes, fineUser, noUser, forty}
