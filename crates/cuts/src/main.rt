@@ -129,6 +129,11 @@ fn moves() {
     print_trivial(b"20971519 by hand:", by_hand(p));
     print_trivial(b"two first inputs:", counted(p, 2, 0, 0));
     print_trivial(b"a second input:", counted(p, 1, 1, 0));
+    moves_at_bounds();
+}
+
+// Trivial moves at the deepest levels and at the bounds of M.
+fn moves_at_bounds() {
     let blank = records::blank_record();
     let none = with_file(counted(one_input(5, M, 1), 1, 0, 0), blank);
     print_trivial(b"level 5 without grandparents:", none);
@@ -161,6 +166,11 @@ fn ill_formed() {
         b"first inputs of level 0 that collide:",
         with_file(counted(one_input(0, M, 1), 2, 0, 0), touching),
     );
+    ill_counted(p);
+}
+
+// Picked answers whose counts or records are not those of their files.
+fn ill_counted(p: Picked) {
     print_trivial(b"more files than there is room for:", counted(p, 1, 256, 1));
     print_trivial(
         b"counts beyond every number:",
@@ -239,6 +249,19 @@ fn deletions_by_room(p: Picked) {
     );
 }
 
+// An edit with two deletions of its own.
+fn two_deletions() -> Edit {
+    Edit::empty()
+        .delete(Deletion {
+            level: 4,
+            number: FileNumber(8),
+        })
+        .delete(Deletion {
+            level: 4,
+            number: FileNumber(9),
+        })
+}
+
 // Input deletions into an edit: in order, after its own, by its room.
 fn deletions() {
     let p = three_inputs();
@@ -247,15 +270,7 @@ fn deletions() {
         picked::add_input_deletions(p, Edit::empty()),
         3,
     );
-    let two = Edit::empty()
-        .delete(Deletion {
-            level: 4,
-            number: FileNumber(8),
-        })
-        .delete(Deletion {
-            level: 4,
-            number: FileNumber(9),
-        });
+    let two = two_deletions();
     print_deleted(
         b"after two of the edit's own:",
         picked::add_input_deletions(p, two),
@@ -427,7 +442,13 @@ fn refused_cuts() {
         memory(true, 2, 5),
         a,
     );
-    m = ask(b"no key seen, and a count:", p, memory(false, 0, 1), a);
+    refused_memories(p);
+}
+
+// Cutters that have seen no key and yet remember something, and a picked answer that is not well-formed.
+fn refused_memories(p: Picked) {
+    let a = key(b'a', 1);
+    let mut m = ask(b"no key seen, and a count:", p, memory(false, 0, 1), a);
     m = ask(b"no key seen, and a place:", p, memory(false, 1, 0), a);
     m = ask(
         b"level 6 and a key of type 2:",

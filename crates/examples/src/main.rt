@@ -74,6 +74,17 @@ fn many(n: usize) -> u64
     n as u64
 }
 
+// How many files there are at each of the levels 0 to 2.
+fn print_counts(counts: [usize; 7]) {
+    print(b", files ");
+    io::print_decimal(1, many(counts[0]));
+    print(b" ");
+    io::print_decimal(1, many(counts[1]));
+    print(b" ");
+    io::print_decimal(1, many(counts[2]));
+    print(b"\n");
+}
+
 // The outcome of an edit, and how many files the store then has at each of the levels 0 to 2.
 fn print_stored(r: Stored) {
     let o = r.outcome;
@@ -86,13 +97,7 @@ fn print_stored(r: Stored) {
     }
     let s = r.store;
     let counts = s.counts;
-    print(b", files ");
-    io::print_decimal(1, many(counts[0]));
-    print(b" ");
-    io::print_decimal(1, many(counts[1]));
-    print(b" ");
-    io::print_decimal(1, many(counts[2]));
-    print(b"\n");
+    print_counts(counts);
 }
 
 // Keys compared.
@@ -117,65 +122,95 @@ fn example_seeks() {
     print(b"\n");
 }
 
+// An edit with one more file of one byte, from sequence 9 of one user key to sequence 5 of another.
+fn with_file(e: Edit, level: usize, number: u64, smallest: u8, largest: u8) -> Edit {
+    e.add(addition(level, number, 1, key(smallest, 9), key(largest, 5)))
+}
+
+// What an edit of a store answers.
+fn tell(text: &[u8], s: Store, e: Edit) {
+    print(text);
+    print_stored(apply::apply(s, e));
+}
+
 // Edits of Table E.
 fn example_edits() {
     let s = store::fresh_store();
-    let first = addition(1, 1, 1, key(b'a', 9), key(b'b', 5));
-    print(b"E4 a@9..b@5 and b@3..c@1 at level 1:");
-    let apart = Edit::empty()
-        .add(first)
-        .add(addition(1, 2, 1, key(b'b', 3), key(b'c', 1)));
-    print_stored(apply::apply(s, apart));
-    print(b"E5 a@9..b@5 and b@5..c@1 at level 1:");
-    let touching = Edit::empty()
-        .add(first)
-        .add(addition(1, 2, 1, key(b'b', 5), key(b'c', 1)));
-    print_stored(apply::apply(s, touching));
-    print(b"E6 base holds 7 at level 2, the edit deletes and adds 7 there:");
-    let seven = addition(2, 7, 1, key(b'a', 9), key(b'b', 5));
-    let base = apply::apply(s, Edit::empty().add(seven));
-    let again = Edit::empty()
-        .delete(deletion(2, 7))
-        .add(addition(2, 7, 1, key(b'c', 9), key(b'd', 5)));
-    print_stored(apply::apply(base.store, again));
+    let first = with_file(Edit::empty(), 1, 1, b'a', b'b');
+    tell(
+        b"E4 a@9..b@5 and b@3..c@1 at level 1:",
+        s,
+        first.add(addition(1, 2, 1, key(b'b', 3), key(b'c', 1))),
+    );
+    tell(
+        b"E5 a@9..b@5 and b@5..c@1 at level 1:",
+        s,
+        first.add(addition(1, 2, 1, key(b'b', 5), key(b'c', 1))),
+    );
 }
 
-// Each refusal of an edit.
+// A file deleted and added again by one edit.
+fn example_again() {
+    let base = apply::apply(
+        store::fresh_store(),
+        with_file(Edit::empty(), 2, 7, b'a', b'b'),
+    );
+    tell(
+        b"E6 base holds 7 at level 2, the edit deletes and adds 7 there:",
+        base.store,
+        with_file(Edit::empty().delete(deletion(2, 7)), 2, 7, b'c', b'd'),
+    );
+}
+
+// An edit that sets one pointer to a key of type 2.
+fn bad_pointing() -> Edit {
+    Edit::empty().point(Pointing {
+        level: 1,
+        key: typed_key(b'a', 9, 2),
+    })
+}
+
+// An edit whose count of additions is beyond its room.
+fn overfull() -> Edit {
+    let mut full = Edit::empty();
+    full.addition_count = 65;
+    full
+}
+
+// An edit that adds one file of a size.
+fn one_added(size: u64, smallest: Key, largest: Key) -> Edit {
+    Edit::empty().add(addition(1, 1, size, smallest, largest))
+}
+
+// Each refusal of an edit that its entries give.
 fn example_refusals() {
     let s = store::fresh_store();
     let a = key(b'a', 9);
     let b = key(b'b', 5);
-    print(b"level 7:");
-    print_stored(apply::apply(s, Edit::empty().delete(deletion(7, 1))));
-    print(b"a key of type 2:");
-    print_stored(apply::apply(
+    tell(b"level 7:", s, Edit::empty().delete(deletion(7, 1)));
+    tell(b"a key of type 2:", s, bad_pointing());
+    tell(b"too many entries:", s, overfull());
+    tell(b"smallest after largest:", s, one_added(1, b, a));
+    tell(b"a size of 2^40 + 1:", s, one_added(1099511627777, a, b));
+}
+
+// Each refusal of an edit that the store gives.
+fn example_store_refusals() {
+    let s = store::fresh_store();
+    tell(
+        b"a log number that is next:",
         s,
-        Edit::empty().point(Pointing {
-            level: 1,
-            key: typed_key(b'a', 9, 2),
-        }),
-    ));
-    print(b"too many entries:");
-    let mut full = Edit::empty();
-    full.addition_count = 65;
-    print_stored(apply::apply(s, full));
-    print(b"smallest after largest:");
-    print_stored(apply::apply(s, Edit::empty().add(addition(1, 1, 1, b, a))));
-    print(b"a size of 2^40 + 1:");
-    print_stored(apply::apply(s, Edit::empty().add(addition(1, 1, 1099511627777, a, b))));
-    print(b"a log number that is next:");
-    print_stored(apply::apply(s, Edit::empty().with_log(NewLog::Becomes(FileNumber(2)))));
-    print(b"one number at two levels:");
-    print_stored(apply::apply(
+        Edit::empty().with_log(NewLog::Becomes(FileNumber(2))),
+    );
+    let one = with_file(Edit::empty(), 1, 1, b'a', b'b');
+    tell(
+        b"one number at two levels:",
         s,
-        Edit::empty()
-            .add(addition(1, 1, 1, a, b))
-            .add(addition(2, 1, 1, a, b)),
-    ));
-    print(b"a store whose count is wrong:");
+        with_file(one, 2, 1, b'a', b'b'),
+    );
     let mut damaged = s;
     damaged.counts[1] = 1;
-    print_stored(apply::apply(damaged, Edit::empty()));
+    tell(b"a store whose count is wrong:", damaged, Edit::empty());
 }
 
 // The key of the n-th of up to 65,536 places.
@@ -246,23 +281,36 @@ fn all_gone() -> Edit {
     out
 }
 
+// 64 files more at level 1, at places from a number on.
+fn more(s: Store, from: usize, is_long: bool) -> Stored {
+    apply::apply(s, sixty_four(Edit::empty(), 1, from, is_long))
+}
+
+// 256 files more at level 1.
+fn filled(s: Store, is_long: bool) -> Stored {
+    let a = more(s, 0, is_long);
+    let b = more(a.store, 64, is_long);
+    let c = more(b.store, 128, is_long);
+    more(c.store, 192, is_long)
+}
+
 // A store with all its room taken, and one file more.
 fn example_full() {
-    let s0 = store::fresh_store();
-    let s1 = apply::apply(s0, sixty_four(Edit::empty(), 1, 0, false));
-    let s2 = apply::apply(s1.store, sixty_four(Edit::empty(), 1, 64, false));
-    let s3 = apply::apply(s2.store, sixty_four(Edit::empty(), 1, 128, false));
-    let s4 = apply::apply(s3.store, sixty_four(Edit::empty(), 1, 192, false));
+    let r = filled(store::fresh_store(), false);
+    let s = r.store;
     print(b"256 files:");
-    print_stored(s4);
-    print(b"one file more:");
-    print_stored(apply::apply(
-        s4.store,
+    print_stored(r);
+    tell(
+        b"one file more:",
+        s,
         Edit::empty().add(addition(0, 1, 1, place(0), place(0))),
-    ));
-    print(b"256 deletions, 64 additions, 16 pointers:");
-    print_stored(apply::apply(s4.store, sixty_four(all_gone(), 2, 0, false)));
-    example_longest(s4.store);
+    );
+    tell(
+        b"256 deletions, 64 additions, 16 pointers:",
+        s,
+        sixty_four(all_gone(), 2, 0, false),
+    );
+    example_longest(s);
 }
 
 // How many bytes were written, or the refusal.
@@ -301,23 +349,19 @@ fn damage(text: &[u8], snapshot: [u8; 256], length: usize, at: usize, value: u8)
     read_few(text, changed(snapshot, at, value), length);
 }
 
+// An edit with one more pointer, at sequence 9 of a user key.
+fn with_pointer(e: Edit, level: usize, user: u8) -> Edit {
+    e.point(Pointing {
+        level: level,
+        key: key(user, 9),
+    })
+}
+
 // A store with pointers at levels 1 and 2, two files at level 1 and one at level 2: its snapshot has 188 bytes.
 fn small_store() -> Store {
-    let first = Pointing {
-        level: 1,
-        key: key(b'a', 9),
-    };
-    let second = Pointing {
-        level: 2,
-        key: key(b'b', 9),
-    };
-    let e = Edit::empty().point(first).point(second);
-    let f = e.add(addition(1, 5, 1, key(b'a', 9), key(b'b', 5)))
-        .add(addition(1, 6, 1, key(b'c', 9), key(b'd', 5)));
-    let r = apply::apply(
-        store::fresh_store(),
-        f.add(addition(2, 7, 1, key(b'a', 9), key(b'b', 5))),
-    );
+    let e = with_pointer(with_pointer(Edit::empty(), 1, b'a'), 2, b'b');
+    let f = with_file(with_file(e, 1, 5, b'a', b'b'), 1, 6, b'c', b'd');
+    let r = apply::apply(store::fresh_store(), with_file(f, 2, 7, b'a', b'b'));
     r.store
 }
 
@@ -354,6 +398,11 @@ fn example_damages(out: [u8; 256]) {
     damage(b"pointer of level 7:", out, 188, 55, 7);
     damage(b"a key of 8 bytes:", out, 188, 45, 8);
     damage(b"a key of type 2:", out, 188, 47, 2);
+    example_file_damages(out);
+}
+
+// A snapshot damaged in one place of its files at a time.
+fn example_file_damages(out: [u8; 256]) {
     damage(b"a level's count off:", out, 188, 68, 3);
     damage(b"numbers not rising:", out, 188, 70, 6);
     damage(b"numbers falling:", out, 188, 70, 9);
@@ -414,14 +463,11 @@ fn seven_pointers() -> Edit {
 
 // A full store of the longest keys: no snapshot is longer.
 fn example_most() {
-    let s0 = apply::apply(store::fresh_store(), seven_pointers());
-    let s1 = apply::apply(s0.store, sixty_four(Edit::empty(), 1, 0, true));
-    let s2 = apply::apply(s1.store, sixty_four(Edit::empty(), 1, 64, true));
-    let s3 = apply::apply(s2.store, sixty_four(Edit::empty(), 1, 128, true));
-    let s4 = apply::apply(s3.store, sixty_four(Edit::empty(), 1, 192, true));
+    let pointed = apply::apply(store::fresh_store(), seven_pointers());
+    let r = filled(pointed.store, true);
     let mut out = [0u8; 25440];
     print(b"256 files and 7 pointers of the longest keys write");
-    print_written(writing::write(s4.store, &mut out));
+    print_written(writing::write(r.store, &mut out));
     read_all(out);
 }
 
@@ -436,7 +482,9 @@ fn main() {
     example_keys();
     example_seeks();
     example_edits();
+    example_again();
     example_refusals();
+    example_store_refusals();
     example_full();
     example_fresh();
     example_snapshots();
