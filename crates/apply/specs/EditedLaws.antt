@@ -33,7 +33,8 @@ use Rattle.edits.specs.EditLaws as entries
 use Rattle.edits.specs.EditLaws.{Few, Checked, passed-is, passed-refused, passed-none}
 use Rattle.edits.specs.declared.Edit.{Edit}
 use Rattle.edits.specs.declared.Pointing.{Pointing}
-use Rattle.apply.specs.Apply.{additionsFine, crowding, pointedBy}
+use Rattle.planning.specs.Planning.{additionsFine, crowding}
+use Rattle.apply.specs.Apply.{pointedBy}
 
 -- ---- pointers
 

@@ -24,11 +24,12 @@ use Rattle.stayers.specs.Stayers.{recordNumber, numberAt, isBelow, recordsAt}
 use Rattle.arrangement.specs.Arrangement.{areLevels}
 use Rattle.builder.specs.Builder.{filesOf, merges, mergedOf}
 use Rattle.builder.specs.declared.Merged.{Merged}
-use Rattle.apply.specs.Apply.{levelsIn, newsOf, stayPlaces, crowding, planFor, acceptedBy, united}
-use Rattle.apply.specs.BuildLaws.{Ready, made-fits, made-is, survivors-length}
-use Rattle.apply.specs.PlanLaws as plan
+use Rattle.planning.specs.Planning.{levelsIn, newsOf, stayPlaces, crowding, united}
+use Rattle.apply.specs.Apply.{planFor, acceptedBy}
+use Rattle.planning.specs.BuildLaws.{Ready, made-fits, made-is, survivors-length}
+use Rattle.planning.specs.PlanLaws as plan
 use Rattle.apply.specs.EditedLaws.{pointers-after, checked-fine, well-levels, crowding-room, rebuilt-crowded, rebuilt-colliding, rebuilt-done, apply-fit}
-use Rattle.apply.specs.declared.Plan.{Plan}
+use Rattle.planning.specs.declared.Plan.{Plan}
 
 module _ (s : Store) (e : Edit) (shape : Shape s) (roomy : HasRoom e) (well : wellStore s ≡ true) (fit : passed (checks (stateOf s .counters) (editOf e)) ≡ Done) where
   -- what the tests have said of the edit

@@ -12,8 +12,9 @@ use Rattle.store.proofs.Shape.{shape}
 use Rattle.edits.specs.EditLaws.{HasRoom}
 use Rattle.edits.proofs.Shape.{has-room}
 use Rattle.stayers.specs.Stayers.{recordNumber}
-use Rattle.apply.specs.Apply.{planOf, planFor}
-use Rattle.apply.specs.PlanLaws.{column-is}
+use Rattle.planning.specs.Planning.{planOf}
+use Rattle.apply.specs.Apply.{planFor}
+use Rattle.planning.specs.PlanLaws.{column-is}
 use Rattle.apply.specs.TestedLaws as tested
 use Rattle.apply.proofs.plan_for.Statement.{statement}
 use Rattle.apply.proofs.plan_for.Tie as tie

@@ -24,7 +24,7 @@ use Rattle.edits.specs.declared.Addition.{Addition}
 use Rattle.stayers.specs.Stayers.{staysBy}
 use Rattle.stayers.specs.StayLaws.{staysIn}
 use Rattle.arrangement.specs.Arrangement.{keyAt}
-use Rattle.apply.specs.Apply.{levelsGone, numbersGone, noKeys, levelsIn, numbersIn, keysIn, newsOf, levelIn, fileIn, numberIn}
+use Rattle.planning.specs.Planning.{levelsGone, numbersGone, noKeys, levelsIn, numbersIn, keysIn, newsOf, levelIn, fileIn, numberIn}
 
 -- the front of the records that are kept of additions
 pub new-files : (as′ : List Addition) (k : ℕ) → k ≡ length as′ → take k (newsOf as′) ≡ map (λ (a : Addition). recordOf (additionOf a .file)) as′

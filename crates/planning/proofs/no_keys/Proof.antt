@@ -1,9 +1,9 @@
 -- `apply::no_keys` meets its contract. Assumes nothing.
 use mathlib.Core.Path.{refl}
 use Rattle.keys.specs.Key.{keyRecord, padded}
-use Rattle.apply.specs.Apply.{noKeys}
-use Rattle.apply.proofs.no_keys.Statement.{statement}
-use Rattle.apply.proofs.no_keys.Tie as tie
+use Rattle.planning.specs.Planning.{noKeys}
+use Rattle.planning.proofs.no_keys.Statement.{statement}
+use Rattle.planning.proofs.no_keys.Tie as tie
 
 returns : tie.Need-returns
 unfolding noKeys keyRecord padded

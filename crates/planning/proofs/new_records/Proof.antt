@@ -14,9 +14,9 @@ use Rattle.records.specs.declared.FileRecord.{FileRecord}
 use Rattle.edits.specs.Edit.{additionOf}
 use Rattle.edits.specs.EditLaws.{pastAddition}
 use Rattle.edits.specs.declared.Addition.{Addition}
-use Rattle.apply.specs.Apply.{newsOf}
-use Rattle.apply.proofs.new_records.Statement.{statement}
-use Rattle.apply.proofs.new_records.Tie as tie
+use Rattle.planning.specs.Planning.{newsOf}
+use Rattle.planning.proofs.new_records.Statement.{statement}
+use Rattle.planning.proofs.new_records.Tie as tie
 
 abbrev Inv-loop : tie.InvT-loop
 Inv-loop count additions files₀ i₀ files i =

@@ -29,10 +29,10 @@ use Rattle.arrangement.specs.Arrangement.{recordBefore, keyBefore, sortedLevels
 use Rattle.arrangement.specs.ArrangeLaws.{key-order, sorted-length, sorted-records, sorted-below}
 use Rattle.builder.specs.Builder.{filesOf, merges, mergedOf, sums}
 use Rattle.builder.specs.MergeLaws.{merges-sums}
-use Rattle.apply.specs.Apply.{levelsGone, numbersGone, levelsIn, numbersIn, keysIn, newsOf, stayPlaces, newPlaces, crowding, planOf, fileIn, staying, ordered, united}
-use Rattle.apply.specs.ColumnLaws as entries
-use Rattle.apply.specs.BuildLaws.{Ready, fine-are, staying-ordered, staying-distinct, twice-is, survivors-length}
-use Rattle.apply.specs.declared.Plan.{Plan}
+use Rattle.planning.specs.Planning.{levelsGone, numbersGone, levelsIn, numbersIn, keysIn, newsOf, stayPlaces, newPlaces, crowding, planOf, fileIn, staying, ordered, united}
+use Rattle.planning.specs.ColumnLaws as entries
+use Rattle.planning.specs.BuildLaws.{Ready, fine-are, staying-ordered, staying-distinct, twice-is, survivors-length}
+use Rattle.planning.specs.declared.Plan.{Plan}
 
 -- ---- the places that stay
 module _ (column counts : List ℕ) (ds : List Deletion) (as′ : List Addition) (room : sum counts ≤ 256) where

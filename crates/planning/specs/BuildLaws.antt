@@ -31,7 +31,7 @@ use Rattle.arrangement.specs.ArrangeLaws.{record-order, sorted-levels, sorted-i
 use Rattle.builder.specs.Builder.{filesOf, merges, mergedOf}
 use Rattle.builder.specs.declared.Merged.{Merged}
 use Rattle.builder.specs.MergeLaws.{merges-length, survivors-merged}
-use Rattle.apply.specs.Apply.{additionsFine, levelIn, fileIn, numberIn, staying, ordered, united}
+use Rattle.planning.specs.Planning.{additionsFine, levelIn, fileIn, numberIn, staying, ordered, united}
 
 -- ---- additions that name a level and a file as document 01 has it
 module _ (m : model.Edit) (fine : additionsFine m ≡ true) where

@@ -10,9 +10,9 @@ use Rattle.lemmas.specs.Slices.{put, length-of-map}
 use Rattle.lemmas.specs.Loops.{view-laid, view-all-laid}
 use Rattle.edits.specs.EditLaws.{pastDeletion}
 use Rattle.edits.specs.declared.Deletion.{Deletion}
-use Rattle.apply.specs.Apply.{levelsGone, numbersGone}
-use Rattle.apply.proofs.deletion_columns.Statement.{statement}
-use Rattle.apply.proofs.deletion_columns.Tie as tie
+use Rattle.planning.specs.Planning.{levelsGone, numbersGone}
+use Rattle.planning.proofs.deletion_columns.Statement.{statement}
+use Rattle.planning.proofs.deletion_columns.Tie as tie
 
 abbrev Inv-loop : tie.InvT-loop
 Inv-loop count levels₀ numbers₀ deletions i₀ levels numbers i =

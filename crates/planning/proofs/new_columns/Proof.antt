@@ -12,9 +12,9 @@ use Rattle.model.specs.File.{full}
 use Rattle.keys.specs.declared.Key.{Key}
 use Rattle.edits.specs.EditLaws.{pastAddition}
 use Rattle.edits.specs.declared.Addition.{Addition}
-use Rattle.apply.specs.Apply.{noKeys, levelsIn, numbersIn, keysIn}
-use Rattle.apply.proofs.new_columns.Statement.{statement}
-use Rattle.apply.proofs.new_columns.Tie as tie
+use Rattle.planning.specs.Planning.{noKeys, levelsIn, numbersIn, keysIn}
+use Rattle.planning.proofs.new_columns.Statement.{statement}
+use Rattle.planning.proofs.new_columns.Tie as tie
 
 abbrev Inv-loop : tie.InvT-loop
 Inv-loop count levels₀ numbers₀ additions keys₀ i₀ levels numbers keys i =

@@ -5,8 +5,8 @@ use borrow.Author.Tests.{lt-ltb, le-ltb}
 use lib.Dec.{ltb}
 use Rattle.model.specs.Answer.{_⇒_}
 use Rattle.edits.specs.EditLaws.{passed-nil, passed-here, passed-later}
-use Rattle.apply.proofs.crowded.Statement.{statement}
-use Rattle.apply.proofs.crowded.Tie as tie
+use Rattle.planning.proofs.crowded.Statement.{statement}
+use Rattle.planning.proofs.crowded.Tie as tie
 
 returns : tie.Need-returns
 returns c =

@@ -21,10 +21,10 @@ use Rattle.stayers.specs.Stayers.{staysBy, stayersBy, numberAt, placesOf, isBel
 use Rattle.stayers.specs.declared.Kept.{Kept}
 use Rattle.stayers.specs.PlaceLaws.{below-of}
 use Rattle.arrangement.specs.Arrangement.{keyBefore, sortedLevels, areLevels, arrangedOf}
-use Rattle.apply.specs.Apply.{levelsGone, numbersGone, levelsIn, numbersIn, keysIn, stayPlaces, newPlaces, crowding, planOf}
-use Rattle.apply.specs.PlanLaws.{stay-few, stay-below}
-use Rattle.apply.proofs.planned.Statement.{statement}
-use Rattle.apply.proofs.planned.Tie as tie
+use Rattle.planning.specs.Planning.{levelsGone, numbersGone, levelsIn, numbersIn, keysIn, stayPlaces, newPlaces, crowding, planOf}
+use Rattle.planning.specs.PlanLaws.{stay-few, stay-below}
+use Rattle.planning.proofs.planned.Statement.{statement}
+use Rattle.planning.proofs.planned.Tie as tie
 
 -- the deletions
 abbrev gone : tie.Start → List Deletion

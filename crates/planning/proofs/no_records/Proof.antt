@@ -2,8 +2,8 @@
 use mathlib.Core.Path.{refl}
 use Rattle.keys.specs.Key.{keyRecord, padded}
 use Rattle.records.specs.Record.{blank, vacant}
-use Rattle.apply.proofs.no_records.Statement.{statement}
-use Rattle.apply.proofs.no_records.Tie as tie
+use Rattle.planning.proofs.no_records.Statement.{statement}
+use Rattle.planning.proofs.no_records.Tie as tie
 
 returns : tie.Need-returns
 unfolding vacant blank keyRecord padded

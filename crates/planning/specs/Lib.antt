@@ -1,0 +1,4 @@
+pub mod Planning
+pub mod ColumnLaws
+pub mod BuildLaws
+pub mod PlanLaws
