@@ -1,4 +1,4 @@
--- `store::new_file_number` meets its contract. Assumes nothing.
+-- `numbering::new_file_number` meets its contract. Assumes nothing.
 use Prim.Native.Nat.{_+_}
 use mathlib.Core.Path.{sym, _∙_}
 use borrow.Author.Needs.{needs}
@@ -8,11 +8,11 @@ use native.Mathlib.Numerals.{add-one}
 use Rattle.model.specs.Counters.{counted, counterBeyond}
 use Rattle.counters.specs.Counters.{countersOf}
 use Rattle.answers.specs.Outcome.{outcomeOf}
-use Rattle.store.specs.Store.{handed}
-use Rattle.store.specs.StoreLaws.{new-ill, new-beyond, new-done, nextIs}
+use Rattle.numbering.specs.Numbering.{handed}
+use Rattle.numbering.specs.NumberingLaws.{new-ill, new-beyond, new-done, nextIs}
 use Rattle.store.proofs.Shape.{shape}
-use Rattle.store.proofs.new_file_number.Statement.{statement}
-use Rattle.store.proofs.new_file_number.Tie as tie
+use Rattle.numbering.proofs.new_file_number.Statement.{statement}
+use Rattle.numbering.proofs.new_file_number.Tie as tie
 
 is-well-formed-requires : tie.Need-is-well-formed-requires
 is-well-formed-requires c κs = search needs

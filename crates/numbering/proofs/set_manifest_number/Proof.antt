@@ -1,13 +1,13 @@
--- `store::set_manifest_number` meets its contract. Assumes nothing.
+-- `numbering::set_manifest_number` meets its contract. Assumes nothing.
 use mathlib.Core.Path.{refl, _∙_}
 use borrow.Author.Needs.{needs}
 use Rattle.model.specs.Counters.{manifest, counted, counterBeyond}
 use Rattle.counters.specs.Counters.{countersOf}
 use Rattle.counters.specs.declared.Counters.{Counters}
-use Rattle.store.specs.StoreLaws.{setting-is}
+use Rattle.numbering.specs.NumberingLaws.{setting-is}
 use Rattle.store.proofs.Shape.{shape}
-use Rattle.store.proofs.set_manifest_number.Statement.{statement}
-use Rattle.store.proofs.set_manifest_number.Tie as tie
+use Rattle.numbering.proofs.set_manifest_number.Statement.{statement}
+use Rattle.numbering.proofs.set_manifest_number.Tie as tie
 
 settled-requires : tie.Need-settled-requires
 settled-requires c κs = search needs

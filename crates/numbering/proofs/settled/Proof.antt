@@ -1,11 +1,11 @@
--- `store::settled` meets its contract. Assumes nothing.
+-- `numbering::settled` meets its contract. Assumes nothing.
 use mathlib.Core.Path.{sym, _∙_}
 use borrow.Author.Needs.{needs}
 use borrow.Author.Tests.{not-true, not-false, lt-ltb, le-ltb}
 use Rattle.model.specs.File.{maxCounter}
-use Rattle.store.specs.Store.{setting}
-use Rattle.store.proofs.settled.Statement.{statement}
-use Rattle.store.proofs.settled.Tie as tie
+use Rattle.numbering.specs.Numbering.{setting}
+use Rattle.numbering.proofs.settled.Statement.{statement}
+use Rattle.numbering.proofs.settled.Tie as tie
 
 is-well-formed-requires : tie.Need-is-well-formed-requires
 is-well-formed-requires c κs = search needs

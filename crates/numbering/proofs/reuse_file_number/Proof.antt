@@ -1,4 +1,4 @@
--- `store::reuse_file_number` meets its contract. Assumes nothing.
+-- `numbering::reuse_file_number` meets its contract. Assumes nothing.
 use mathlib.Core.Path.{_≡_, refl, sym, ap, _∙_}
 use mathlib.Core.Logic.{⊎-elim}
 use native.Mathlib.Omega.{arith}
@@ -6,10 +6,10 @@ use borrow.Author.Needs.{needs}
 use borrow.Author.Tests.{not-true, not-false}
 use Rattle.model.specs.Counters.{reuse, counted, counterBeyond}
 use Rattle.counters.specs.Counters.{countersOf}
-use Rattle.store.specs.StoreLaws.{count-ill, count-done, reuse-down, reuse-kept}
+use Rattle.numbering.specs.NumberingLaws.{count-ill, count-done, reuse-down, reuse-kept}
 use Rattle.store.proofs.Shape.{shape}
-use Rattle.store.proofs.reuse_file_number.Statement.{statement}
-use Rattle.store.proofs.reuse_file_number.Tie as tie
+use Rattle.numbering.proofs.reuse_file_number.Statement.{statement}
+use Rattle.numbering.proofs.reuse_file_number.Tie as tie
 
 is-well-formed-requires : tie.Need-is-well-formed-requires
 is-well-formed-requires c κs = search needs

@@ -1,4 +1,4 @@
--- `store::mark_file_number_used` meets its contract. Assumes nothing.
+-- `numbering::mark_file_number_used` meets its contract. Assumes nothing.
 use mathlib.Core.Path.{_≡_, sym, ap, _∙_}
 use mathlib.Core.Logic.{⊎-elim}
 use borrow.Author.Needs.{needs}
@@ -6,10 +6,10 @@ use borrow.Author.Tests.{not-true, not-false, le-leb, lt-leb}
 use Rattle.model.specs.File.{maxCounter}
 use Rattle.model.specs.Counters.{mark, counted, counterBeyond}
 use Rattle.counters.specs.Counters.{countersOf}
-use Rattle.store.specs.StoreLaws.{count-ill, count-beyond, count-done, mark-up, mark-kept}
+use Rattle.numbering.specs.NumberingLaws.{count-ill, count-beyond, count-done, mark-up, mark-kept}
 use Rattle.store.proofs.Shape.{shape}
-use Rattle.store.proofs.mark_file_number_used.Statement.{statement}
-use Rattle.store.proofs.mark_file_number_used.Tie as tie
+use Rattle.numbering.proofs.mark_file_number_used.Statement.{statement}
+use Rattle.numbering.proofs.mark_file_number_used.Tie as tie
 
 is-well-formed-requires : tie.Need-is-well-formed-requires
 is-well-formed-requires c κs = search needs
