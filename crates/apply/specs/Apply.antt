@@ -18,11 +18,12 @@ use Rattle.records.specs.declared.FileRecord.{FileRecord}
 use Rattle.store.specs.declared.Pointer.{Pointer}
 use Rattle.store.specs.declared.Store.{Store}
 use Rattle.store.specs.declared.Stored.{Stored}
-use Rattle.edits.specs.Edit.{additionOf, logOf, passed}
+use Rattle.edits.specs.Edit.{additionOf, logOf}
 use Rattle.edits.specs.declared.Deletion.{Deletion}
 use Rattle.edits.specs.declared.Addition.{Addition}
 use Rattle.edits.specs.declared.Pointing.{Pointing}
 use Rattle.edits.specs.declared.Edit.{Edit}
+use Rattle.entries.specs.Entries.{passed}
 use Rattle.stayers.specs.Stayers.{recordNumber, staysBy, stayersBy, stayersFrom, numberAt, placesOf, keptOf}
 use Rattle.stayers.specs.StayLaws.{staysIn}
 use Rattle.arrangement.specs.Arrangement.{recordBefore, keyBefore, sortedLevels, arrangedOf}

@@ -1,4 +1,4 @@
--- `edits::check_addition` meets its contract. Assumes nothing.
+-- `entries::check_addition` meets its contract. Assumes nothing.
 use mathlib.Core.Path.{_≡_, sym, _∙_}
 use mathlib.Core.Bool.{true}
 use borrow.Author.Tests.{lt-ltb, le-ltb, not-true, not-false}
@@ -8,10 +8,11 @@ use Rattle.model.specs.File.{full, maxSize}
 use Rattle.model.specs.Edit.{additionRefusals}
 use Rattle.answers.specs.Outcome.{outcomeOf}
 use Rattle.keys.specs.Key.{keyOf}
-use Rattle.edits.specs.Edit.{additionOf, passed}
+use Rattle.edits.specs.Edit.{additionOf}
+use Rattle.entries.specs.Entries.{passed}
 use borrow.Author.Needs.{needs}
-use Rattle.edits.proofs.check_addition.Statement.{statement}
-use Rattle.edits.proofs.check_addition.Tie as tie
+use Rattle.entries.proofs.check_addition.Statement.{statement}
+use Rattle.entries.proofs.check_addition.Tie as tie
 
 returns : tie.Need-returns
 unfolding passed firstOf outcomeOf _⇒_ additionRefusals additionOf full maxSize

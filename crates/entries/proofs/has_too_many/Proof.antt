@@ -1,4 +1,4 @@
--- `edits::has_too_many` meets its contract. Assumes nothing.
+-- `entries::has_too_many` meets its contract. Assumes nothing.
 use mathlib.Core.Path.{_≡_, refl, sym}
 use Prim.Native.Nat.{_≤_}
 use mathlib.Core.Bool.{Bool, true, false}
@@ -7,12 +7,12 @@ use lib.Dec.{ltb}
 use borrow.Author.Tests.{ltb-true, ltb-false}
 use Rattle.model.specs.File.{full}
 use Rattle.model.specs.Edit.{tooMany}
 use Rattle.edits.specs.declared.Edit.{Edit}
 use Rattle.edits.specs.Edit.{editOf}
 use Rattle.edits.specs.EditLaws.{HasRoom, enough, many}
 use Rattle.edits.proofs.Shape.{has-room}
-use Rattle.edits.proofs.has_too_many.Statement.{statement}
-use Rattle.edits.proofs.has_too_many.Tie as tie
+use Rattle.entries.proofs.has_too_many.Statement.{statement}
+use Rattle.entries.proofs.has_too_many.Tie as tie
 
 -- the other counts within the room: by the count of pointers
 last : (e : Edit) → HasRoom e → e .«deletion_count» ≤ 256 → e .«addition_count» ≤ 64 → (t : Bool) → ltb 16 (e .«pointing_count») ≡ t → t ≡ tooMany full (editOf e)

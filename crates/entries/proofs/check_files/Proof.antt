@@ -1,15 +1,17 @@
--- `edits::check_files` meets its contract. Assumes nothing.
+-- `entries::check_files` meets its contract. Assumes nothing.
 use mathlib.Core.Path.{_≡_, sym, _∙_, ap}
 use mathlib.Core.List.{List}
 use Rattle.model.specs.File.{full}
 use Rattle.model.specs.Edit as model
 use Rattle.model.specs.Edit.{deletionRefusals, additionRefusals}
-use Rattle.edits.specs.Edit.{editOf, passed}
-use Rattle.edits.specs.EditLaws.{Few, few, deletions-are, additions-are, passed-refused, passed-done}
+use Rattle.edits.specs.Edit.{editOf}
+use Rattle.edits.specs.EditLaws.{Few, few, deletions-are, additions-are}
 use Rattle.edits.proofs.Shape.{has-room}
+use Rattle.entries.specs.Entries.{passed}
+use Rattle.entries.specs.EntryLaws.{passed-refused, passed-done}
 use borrow.Author.Needs.{needs}
-use Rattle.edits.proofs.check_files.Statement.{statement}
-use Rattle.edits.proofs.check_files.Tie as tie
+use Rattle.entries.proofs.check_files.Statement.{statement}
+use Rattle.entries.proofs.check_files.Tie as tie
 
 -- the counts are within the room
 within : (s : tie.Start) → Few (s .args .e)

@@ -1,13 +1,13 @@
--- `edits::has_bad_log` meets its contract. Assumes nothing.
+-- `entries::has_bad_log` meets its contract. Assumes nothing.
 use native.Mathlib.Omega.{arith}
 use borrow.Author.Tests.{lt-ltb, le-ltb}
 use Rattle.model.specs.File.{maxCounter}
 use Rattle.model.specs.Edit.{badLog}
 use Rattle.counters.specs.Counters.{countersOf}
 use Rattle.edits.specs.Edit.{logOf}
 use borrow.Author.Needs.{needs}
-use Rattle.edits.proofs.has_bad_log.Statement.{statement}
-use Rattle.edits.proofs.has_bad_log.Tie as tie
+use Rattle.entries.proofs.has_bad_log.Statement.{statement}
+use Rattle.entries.proofs.has_bad_log.Tie as tie
 
 enum-told : tie.Need-enum-told
 enum-told c = search needs

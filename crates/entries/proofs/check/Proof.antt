@@ -1,4 +1,4 @@
--- `edits::check` meets its contract. Assumes nothing.
+-- `entries::check` meets its contract. Assumes nothing.
 use mathlib.Core.Path.{_≡_, sym, _∙_, ap}
 use mathlib.Core.Bool.{false}
 use mathlib.Core.List.{List, _++_}
@@ -6,12 +6,14 @@ use Rattle.model.specs.File.{full}
 use Rattle.model.specs.Edit as model
 use Rattle.model.specs.Edit.{tooMany, pointerRefusals, deletionRefusals, additionRefusals}
 use Rattle.counters.specs.Counters.{countersOf}
-use Rattle.edits.specs.Edit.{editOf, passed, checks}
-use Rattle.edits.specs.EditLaws.{Few, few, pointers-are, passed-refused, passed-done, checks-many, checks-log, checks-entries}
+use Rattle.edits.specs.Edit.{editOf}
+use Rattle.edits.specs.EditLaws.{Few, few, pointers-are}
 use Rattle.edits.proofs.Shape.{has-room}
+use Rattle.entries.specs.Entries.{passed, checks}
+use Rattle.entries.specs.EntryLaws.{passed-refused, passed-done, checks-many, checks-log, checks-entries}
 use borrow.Author.Needs.{needs}
-use Rattle.edits.proofs.check.Statement.{statement}
-use Rattle.edits.proofs.check.Tie as tie
+use Rattle.entries.proofs.check.Statement.{statement}
+use Rattle.entries.proofs.check.Tie as tie
 
 has-too-many-requires : tie.Need-has-too-many-requires
 has-too-many-requires c κs = search needs

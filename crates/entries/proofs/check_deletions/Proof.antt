@@ -1,4 +1,4 @@
--- `edits::check_deletions` meets its contract. The loop's invariant: the tests of all come to what those of the entries from i on come to. Assumes nothing.
+-- `entries::check_deletions` meets its contract. The loop's invariant: the tests of all come to what those of the entries from i on come to. Assumes nothing.
 use mathlib.Core.Path.{_≡_, refl, sym, _∙_}
 use Prim.Native.Nat.{_≤_, _-_, _<_}
 use mathlib.Core.List.{[], _∷_, map}
@@ -12,11 +12,13 @@ use Rattle.model.specs.File.{full}
 use Rattle.model.specs.Edit.{deletionRefusals}
 use Rattle.answers.specs.Outcome.{outcomeOf}
 use Rattle.answers.specs.declared.Outcome.the-variants.{Done, Refused}
 use Rattle.edits.specs.declared.Deletion.{Deletion}
-use Rattle.edits.specs.Edit.{deletionOf, passed}
-use Rattle.edits.specs.EditLaws.{pastDeletion, deletions-turn, entry-refused, entry-done, entries-done}
-use Rattle.edits.proofs.check_deletions.Statement.{statement}
-use Rattle.edits.proofs.check_deletions.Tie as tie
+use Rattle.edits.specs.Edit.{deletionOf}
+use Rattle.edits.specs.EditLaws.{pastDeletion}
+use Rattle.entries.specs.Entries.{passed}
+use Rattle.entries.specs.EntryLaws.{deletions-turn, entry-refused, entry-done, entries-done}
+use Rattle.entries.proofs.check_deletions.Statement.{statement}
+use Rattle.entries.proofs.check_deletions.Tie as tie
 
 -- a deletion above the last level is refused, any other is not
 far : (d : Deletion) → 7 ≤ d .level → passed (deletionRefusals full (deletionOf d ∷ [])) ≡ Refused 1

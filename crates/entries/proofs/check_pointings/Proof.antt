@@ -1,4 +1,4 @@
--- `edits::check_pointings` meets its contract. The loop's invariant: the tests of all come to what those of the entries from i on come to. Assumes nothing.
+-- `entries::check_pointings` meets its contract. The loop's invariant: the tests of all come to what those of the entries from i on come to. Assumes nothing.
 use mathlib.Core.Path.{_≡_, refl, sym, _∙_}
 use Prim.Native.Nat.{_≤_, _-_}
 use mathlib.Core.List.{map}
@@ -8,10 +8,12 @@ use lib.ListN.{length, take}
 use lib.Seq.{slice}
 use Rattle.model.specs.File.{full}
 use Rattle.model.specs.Edit.{pointerRefusals}
-use Rattle.edits.specs.Edit.{pointingOf, passed}
-use Rattle.edits.specs.EditLaws.{pastPointing, pointers-turn, entry-refused, entry-done, entries-done}
-use Rattle.edits.proofs.check_pointings.Statement.{statement}
-use Rattle.edits.proofs.check_pointings.Tie as tie
+use Rattle.edits.specs.Edit.{pointingOf}
+use Rattle.edits.specs.EditLaws.{pastPointing}
+use Rattle.entries.specs.Entries.{passed}
+use Rattle.entries.specs.EntryLaws.{pointers-turn, entry-refused, entry-done, entries-done}
+use Rattle.entries.proofs.check_pointings.Statement.{statement}
+use Rattle.entries.proofs.check_pointings.Tie as tie
 
 abbrev Inv-loop : tie.InvT-loop
 Inv-loop count pointings i₀ i = (i ≤ count) × (passed (pointerRefusals full (map pointingOf (take count pointings))) ≡ passed (pointerRefusals full (map pointingOf (slice i count pointings))))

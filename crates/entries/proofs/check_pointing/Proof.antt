@@ -1,14 +1,15 @@
--- `edits::check_pointing` meets its contract. Assumes nothing.
+-- `entries::check_pointing` meets its contract. Assumes nothing.
 use mathlib.Core.Path.{sym, _∙_}
 use borrow.Author.Tests.{lt-ltb, le-ltb, not-true, not-false}
 use Rattle.model.specs.Answer.{firstOf, _⇒_}
 use Rattle.answers.specs.Outcome.{outcomeOf}
 use Rattle.model.specs.File.{full}
 use Rattle.model.specs.Edit.{pointerRefusals}
-use Rattle.edits.specs.Edit.{pointingOf, passed}
+use Rattle.edits.specs.Edit.{pointingOf}
+use Rattle.entries.specs.Entries.{passed}
 use borrow.Author.Needs.{needs}
-use Rattle.edits.proofs.check_pointing.Statement.{statement}
-use Rattle.edits.proofs.check_pointing.Tie as tie
+use Rattle.entries.proofs.check_pointing.Statement.{statement}
+use Rattle.entries.proofs.check_pointing.Tie as tie
 
 returns : tie.Need-returns
 unfolding passed firstOf outcomeOf _⇒_ pointerRefusals pointingOf full

@@ -1,4 +1,4 @@
--- `edits::check_additions` meets its contract. The loop's invariant: the tests of all come to what those of the entries from i on come to. Assumes nothing.
+-- `entries::check_additions` meets its contract. The loop's invariant: the tests of all come to what those of the entries from i on come to. Assumes nothing.
 use mathlib.Core.Path.{_≡_, refl, sym, _∙_}
 use Prim.Native.Nat.{_≤_, _-_}
 use mathlib.Core.List.{map}
@@ -8,10 +8,12 @@ use lib.ListN.{length, take}
 use lib.Seq.{slice}
 use Rattle.model.specs.File.{full}
 use Rattle.model.specs.Edit.{additionRefusals}
-use Rattle.edits.specs.Edit.{additionOf, passed}
-use Rattle.edits.specs.EditLaws.{pastAddition, additions-turn, entry-refused, entry-done, entries-done}
-use Rattle.edits.proofs.check_additions.Statement.{statement}
-use Rattle.edits.proofs.check_additions.Tie as tie
+use Rattle.edits.specs.Edit.{additionOf}
+use Rattle.edits.specs.EditLaws.{pastAddition}
+use Rattle.entries.specs.Entries.{passed}
+use Rattle.entries.specs.EntryLaws.{additions-turn, entry-refused, entry-done, entries-done}
+use Rattle.entries.proofs.check_additions.Statement.{statement}
+use Rattle.entries.proofs.check_additions.Tie as tie
 
 abbrev Inv-loop : tie.InvT-loop
 Inv-loop count additions i₀ i = (i ≤ count) × (passed (additionRefusals full (map additionOf (take count additions))) ≡ passed (additionRefusals full (map additionOf (slice i count additions))))
