@@ -28,11 +28,13 @@ use Rattle.store.specs.Store.{pointerOf, pointerRecord, soundPointer, wellPoint
 use Rattle.store.specs.StoreLaws as store
 use Rattle.store.specs.declared.Pointer.{Pointer}
 use Rattle.store.specs.declared.Store.{Store}
-use Rattle.edits.specs.Edit.{editOf, pointingOf, passed, checks}
-use Rattle.edits.specs.EditLaws as entries
-use Rattle.edits.specs.EditLaws.{Few, Checked, passed-is, passed-refused, passed-none}
+use Rattle.edits.specs.Edit.{editOf, pointingOf}
+use Rattle.edits.specs.EditLaws as edits
+use Rattle.edits.specs.EditLaws.{Few}
 use Rattle.edits.specs.declared.Edit.{Edit}
 use Rattle.edits.specs.declared.Pointing.{Pointing}
+use Rattle.entries.specs.Entries.{passed, checks}
+use Rattle.entries.specs.EntryLaws.{Checked, passed-is, passed-refused, passed-none}
 use Rattle.planning.specs.Planning.{additionsFine, crowding}
 use Rattle.apply.specs.Apply.{pointedBy}
 
@@ -51,7 +53,7 @@ pub pointers-after : (ps : List Pointer) (e : Edit) → Each store.PointerShaped
 pointers-after ps e shaped sound w =
     let qs = take (e .«pointing_count») (e .pointings) in
     ap (pointedBy qs) (store.pointers-are ps shaped sound) ∙ pointed-records qs (map pointerOf ps)
-    ∙ ap (λ (z : List model.Pointer). map pointerRecord (pointed z (map pointerOf ps))) (sym (entries.pointers-are e w))
+    ∙ ap (λ (z : List model.Pointer). map pointerRecord (pointed z (map pointerOf ps))) (sym (edits.pointers-are e w))
 
 -- ---- the tests that go before: 14, 3, 9, the entries
 

@@ -17,9 +17,11 @@ use Rattle.levels.specs.LevelsLaws as levels
 use Rattle.store.specs.Store.{stateOf, wellStore, onStore, stored, refusedBy}
 use Rattle.store.specs.StoreLaws.{Shape, sound-says, well-says}
 use Rattle.store.specs.declared.Store.{Store}
-use Rattle.edits.specs.Edit.{editOf, passed, checks}
-use Rattle.edits.specs.EditLaws.{HasRoom, Few, few, Checked, checks-say}
+use Rattle.edits.specs.Edit.{editOf}
+use Rattle.edits.specs.EditLaws.{HasRoom, Few, few}
 use Rattle.edits.specs.declared.Edit.{Edit}
+use Rattle.entries.specs.Entries.{passed, checks}
+use Rattle.entries.specs.EntryLaws.{Checked, checks-say}
 use Rattle.stayers.specs.Stayers.{recordNumber, numberAt, isBelow, recordsAt}
 use Rattle.arrangement.specs.Arrangement.{areLevels}
 use Rattle.builder.specs.Builder.{filesOf, merges, mergedOf}

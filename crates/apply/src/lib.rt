@@ -9,7 +9,8 @@ ghost use Rattle.model.specs.Edit as model;
 ghost use Rattle.answers.specs.declared.Outcome.the-variants as outcome;
 ghost use Rattle.counters.specs.Counters.{countersOf, countersRecord};
 ghost use Rattle.store.specs.Store.{stateOf, wellStore, onStore, stored};
-ghost use Rattle.edits.specs.Edit.{editOf, logOf, passed, checks};
+ghost use Rattle.edits.specs.Edit.{editOf, logOf};
+ghost use Rattle.entries.specs.Entries.{passed, checks};
 ghost use Rattle.builder.specs.Builder.{mergedOf};
 ghost use Rattle.planning.specs.Planning.{united};
 ghost use Rattle.apply.specs.Apply.{planFor, acceptedBy, pointedBy};
@@ -133,7 +134,7 @@ pub fn apply(s: Store, e: Edit) -> Stored
         return store::refuse(s, Refusal::FORM);
     }
     let counters = s.counters;
-    let o = edits::check(counters, e);
+    let o = entries::check(counters, e);
     match o {
         Outcome::Refused(n) => {
             return store::refuse(s, n);

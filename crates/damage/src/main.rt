@@ -7,8 +7,8 @@ use edits::Pointing;
 use keys::FileNumber;
 use keys::Key;
 use keys::SequenceNumber;
+use numbering::Handed;
 use records::FileRecord;
-use store::Handed;
 use store::Pointer;
 use store::Store;
 
@@ -142,7 +142,7 @@ fn tell(what: &[u8], s: Store) {
     } else {
         print(b": not well-formed");
     }
-    print_handed(store::new_file_number(s));
+    print_handed(numbering::new_file_number(s));
 }
 
 // The store with another record in a place.

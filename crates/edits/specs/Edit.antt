@@ -1,16 +1,11 @@
 -- What an edit by value stands for. Assumes nothing.
 use Prim.Native.Nat.{ℕ, _+_, _-_}
 use mathlib.Core.Bool.{cond}
-use mathlib.Core.List.{List, [], _∷_, map, _++_}
+use mathlib.Core.List.{List, [], map, _++_}
 use mathlib.Core.Option.{Option, none, some}
 use lib.Dec.{ltb}
 use lib.ListN.{take, set, replicate}
-use Rattle.model.specs.Answer.{Refusal, firstOf, _⇒_}
-use Rattle.model.specs.File.{full}
-use Rattle.model.specs.File as model-file
 use Rattle.model.specs.Edit as model
-use Rattle.answers.specs.Outcome.{outcomeOf}
-use Rattle.answers.specs.declared.Outcome.{Outcome}
 use Rattle.keys.specs.Key.{keyOf, keyRecord}
 use Rattle.edits.specs.declared.Deletion.{Deletion}
 use Rattle.edits.specs.declared.Addition.{Addition}
@@ -124,11 +119,3 @@ withLog e n = record {
   «addition_count» = e .«addition_count»;
   log = n;
 }
-
--- what a list of tests comes to: done where none applies, else refused by the first that does
-unfoldable pub passed : List Refusal → Outcome
-passed rs = outcomeOf (firstOf rs rs)
-
--- what is tested of an edit before anything is built: too many entries, the log number, the entries in turn
-unfoldable pub checks : model-file.Counters → model.Edit → List Refusal
-checks c e = (model.tooMany full e ⇒ 3) ∷ (model.badLog c (e .log) ⇒ 9) ∷ model.entryRefusals full e

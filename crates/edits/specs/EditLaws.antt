@@ -1,33 +1,23 @@
--- Laws of edits by value: what a list of tests comes to, which entries a record holds, one entry more, and what an edit that passes its tests is. Assumes nothing.
+-- Laws of edits by value: which entries a record holds, and one entry more. Assumes nothing.
 use Prim.Native.Nat.{ℕ, _+_, _-_, _≤_, _<_}
 use mathlib.Core.Path.{_≡_, refl, sym, ap, _∙_}
 use mathlib.Core.Bool.{Bool, true, false, not, _&&_, cond}
-use mathlib.Core.List.{List, [], _∷_, _++_, map, map-append, append-nil, append-assoc, List·Memᴰ·head as here, List·Memᴰ·tail as there, Memᴰ·append-left as in-left, Memᴰ·append-right as in-right}
+use mathlib.Core.List.{List, [], _∷_, _++_, map, map-append, append-nil}
 use native.Mathlib.Omega.{arith}
 use native.Mathlib.Numerals.{add-one}
 use lib.Dec.{ltb, leb}
-use lib.ListN.{length, getD, take, set, replicate, length-append, length-take, length-map, length-set, length-replicate}
-use lib.Seq.{slice, take-suc-set}
+use lib.ListN.{length, take, set, replicate, length-append, length-take, length-map, length-set, length-replicate}
+use lib.Seq.{take-suc-set}
 use borrow.Author.Tests.{ltb-false, leb-true, lt-ltb, le-leb, not-false}
-use Rattle.lemmas.specs.Order.{clash}
-use Rattle.lemmas.specs.Lists.{all}
-use Rattle.lemmas.specs.ListLaws.{and-left, and-right, both, all-in}
-use Rattle.lemmas.specs.Slices.{drop-view, view-end}
-use Rattle.model.specs.Answer.{Answer, gives, refused, Refusal, firstOf, _⇒_}
-use Rattle.model.specs.AnswerLaws.{NoneApplies, firstOf-gives}
-use Rattle.model.specs.Key.{goodKey, before}
-use Rattle.model.specs.File.{full, goodFile, maxSize}
-use Rattle.model.specs.File as model-file
+use Rattle.lemmas.specs.ListLaws.{and-left, and-right}
+use Rattle.model.specs.File.{full}
 use Rattle.model.specs.Edit as model
-use Rattle.model.specs.Edit.{tooMany, badLog, pointerRefusals, deletionRefusals, additionRefusals, entryRefusals, emptyEdit}
-use Rattle.model.specs.EditLaws.{AdditionFits, pointers-fit, deletions-fit, additions-fit}
-use Rattle.answers.specs.Outcome.{outcomeOf}
-use Rattle.answers.specs.declared.Outcome.the-variants.{Done, Refused}
+use Rattle.model.specs.Edit.{tooMany, emptyEdit}
 use Rattle.edits.specs.declared.Deletion.{Deletion}
 use Rattle.edits.specs.declared.Addition.{Addition}
 use Rattle.edits.specs.declared.Pointing.{Pointing}
 use Rattle.edits.specs.declared.Edit.{Edit}
-use Rattle.edits.specs.Edit.{entries, blankDeletion, blankAddition, blankPointing, deletionOf, additionOf, pointingOf, logOf, editOf, emptyRecord, oneMore, withDeletion, withAddition, withPointing, passed, checks}
+use Rattle.edits.specs.Edit.{entries, blankDeletion, blankAddition, blankPointing, deletionOf, additionOf, pointingOf, logOf, editOf, emptyRecord, oneMore, withDeletion, withAddition, withPointing}
 
 -- what is read past the end of an edit's arrays
 abbrev pub pastPointing : Pointing
@@ -40,108 +30,6 @@ pastDeletion = record { level = 0; number = record { 0 = 0 } }
 -- what is read past the additions
 abbrev pub pastAddition : Addition
 pastAddition = record { level = 0; number = record { 0 = 0 }; size = 0; smallest = record { bytes = []; len = 0 }; largest = record { bytes = []; len = 0 } }
-
--- ---- what a list of tests comes to
-
--- it does not depend on the answer that is given where none applies
-outcome-same : {A B : Type 0} (rs : List Refusal) (a : A) (b : B) → outcomeOf (firstOf rs a) ≡ outcomeOf (firstOf rs b)
-unfolding firstOf outcomeOf
-outcome-same [] a b = refl
-outcome-same (r ∷ rs) a b = go (outcome-same rs a b) (r .applies)
-  where
-    go : outcomeOf (firstOf rs a) ≡ outcomeOf (firstOf rs b) → (t : Bool) → outcomeOf (cond t (refused (r .code)) (firstOf rs a)) ≡ outcomeOf (cond t (refused (r .code)) (firstOf rs b))
-    go ih true = refl
-    go ih false = ih
-
--- so it is the outcome of any answer behind these tests
-pub passed-is : {A : Type 0} (rs : List Refusal) (a : A) → passed rs ≡ outcomeOf (firstOf rs a)
-unfolding passed
-passed-is rs a = outcome-same rs rs a
-
--- no test
-pub passed-nil : passed [] ≡ Done
-unfolding passed firstOf outcomeOf
-passed-nil = refl
-
--- by the first test, whatever it is
-module _ (r : Refusal) (rs : List Refusal) where
-  first-here : r .applies ≡ true → passed (r ∷ rs) ≡ Refused (r .code)
-  unfolding passed firstOf outcomeOf
-  first-here e = rw e
-
-  first-later : r .applies ≡ false → passed (r ∷ rs) ≡ passed rs
-  unfolding passed firstOf
-  first-later e =
-      ap (λ (t : Bool). outcomeOf (cond t (refused (r .code)) (firstOf rs (r ∷ rs)))) e ∙ outcome-same rs (r ∷ rs) rs
-
--- the first test applies, or does not
-module _ (b : Bool) (n : ℕ) (rs : List Refusal) where
-  pub passed-here : b ≡ true → passed ((b ⇒ n) ∷ rs) ≡ Refused n
-  unfolding _⇒_
-  passed-here e = first-here (b ⇒ n) rs e
-
-  pub passed-later : b ≡ false → passed ((b ⇒ n) ∷ rs) ≡ passed rs
-  unfolding _⇒_
-  passed-later e = first-later (b ⇒ n) rs e
-
--- two lists: the first refuses, or does not
-module _ (ys : List Refusal) where
-  pub passed-refused : (xs : List Refusal) (n : ℕ) → passed xs ≡ Refused n → passed (xs ++ ys) ≡ Refused n
-  passed-refused [] n e = let z : true ≡ false = cc passed-nil in clash refl z
-  passed-refused (x ∷ xs) n e = go (passed-refused xs n) (x .applies) refl
-    where
-      go : (passed xs ≡ Refused n → passed (xs ++ ys) ≡ Refused n) → (t : Bool) → x .applies ≡ t → passed (x ∷ (xs ++ ys)) ≡ Refused n
-      go ih true f = first-here x (xs ++ ys) f ∙ sym (first-here x xs f) ∙ e
-      go ih false f = first-later x (xs ++ ys) f ∙ ih (sym (first-later x xs f) ∙ e)
-
-  pub passed-done : (xs : List Refusal) → passed xs ≡ Done → passed (xs ++ ys) ≡ passed ys
-  passed-done [] e = refl
-  passed-done (x ∷ xs) e = go (passed-done xs) (x .applies) refl
-    where
-      go : (passed xs ≡ Done → passed (xs ++ ys) ≡ passed ys) → (t : Bool) → x .applies ≡ t → passed (x ∷ (xs ++ ys)) ≡ passed ys
-      go ih true f = let z : true ≡ false = cc (first-here x xs f) in clash refl z
-      go ih false f = first-later x (xs ++ ys) f ∙ ih (sym (first-later x xs f) ∙ e)
-
--- done: no test applies
-pub passed-none : (rs : List Refusal) → passed rs ≡ Done → NoneApplies rs
-unfolding passed outcomeOf
-passed-none rs e = go (firstOf rs rs) refl
-  where
-    go : (a : Answer (List Refusal)) → firstOf rs rs ≡ a → NoneApplies rs
-    go (gives t) q = firstOf-gives rs rs t q .none-applies
-    go (refused n) q = let f = rw q at e in let z : true ≡ false = cc in clash refl z
-
--- ---- the tests of entries in turn, each entry's after those of the one before
-module _ {A B : Type 0} (f : A → B) (tests : List B → List Refusal) (turn : (x : B) (xs : List B) → tests (x ∷ xs) ≡ tests (x ∷ []) ++ tests xs) (i e : ℕ) (l : List A) where
-  module _ (d : A) (h : i < e) (k : e ≤ length l) where
-    begins : passed (tests (map f (slice i e l))) ≡ passed (tests (f (getD l i d) ∷ []) ++ tests (map f (slice (i + 1) e l)))
-    begins = ap (λ (xs : List B). passed (tests xs)) (drop-view f i e l d h k) ∙ ap passed (turn (f (getD l i d)) (map f (slice (i + 1) e l)))
-
-    -- the entry at i is refused, or is not
-    pub entry-refused : (n : ℕ) → passed (tests (f (getD l i d) ∷ [])) ≡ Refused n → passed (tests (map f (slice i e l))) ≡ Refused n
-    entry-refused n q = begins ∙ passed-refused (tests (map f (slice (i + 1) e l))) (tests (f (getD l i d) ∷ [])) n q
-
-    pub entry-done : passed (tests (f (getD l i d) ∷ [])) ≡ Done → passed (tests (map f (slice i e l))) ≡ passed (tests (map f (slice (i + 1) e l)))
-    entry-done q = begins ∙ passed-done (tests (map f (slice (i + 1) e l))) (tests (f (getD l i d) ∷ [])) q
-
-  -- no entry is left
-  pub entries-done : tests [] ≡ [] → i ≤ e → e ≤ i → passed (tests (map f (slice i e l))) ≡ Done
-  entries-done q h k = ap (λ (xs : List B). passed (tests xs)) (view-end f i e l h k) ∙ ap passed q ∙ passed-nil
-
--- so it is for pointers
-pub pointers-turn : (x : model.Pointer) (xs : List model.Pointer) → pointerRefusals full (x ∷ xs) ≡ pointerRefusals full (x ∷ []) ++ pointerRefusals full xs
-unfolding pointerRefusals
-pointers-turn x xs = refl
-
--- deletions
-pub deletions-turn : (x : model.Deletion) (xs : List model.Deletion) → deletionRefusals full (x ∷ xs) ≡ deletionRefusals full (x ∷ []) ++ deletionRefusals full xs
-unfolding deletionRefusals
-deletions-turn x xs = refl
-
--- additions
-pub additions-turn : (x : model.Addition) (xs : List model.Addition) → additionRefusals full (x ∷ xs) ≡ additionRefusals full (x ∷ []) ++ additionRefusals full xs
-unfolding additionRefusals
-additions-turn x xs = refl
 
 -- ---- the entries that a count names
 module _ {A : Type 0} (room : ℕ) (blank : A) (count : ℕ) (l : List A) where
@@ -309,72 +197,3 @@ module _ (e : Edit) (r : HasRoom e) where
   pub addition-beyond : (a : Addition) → 64 ≤ e .«addition_count» → tooMany full (editOf (withAddition e a)) ≡ true
   unfolding withAddition
   addition-beyond a h = many (withAddition e a) (addition-room a) (λ w. let b = w .additions in omega (arith, one-more-past (e .«addition_count») 64 (omega arith) h))
-
--- ---- the tests of an edit, in their order
-module _ (c : model-file.Counters) (e : model.Edit) where
-  -- too many entries
-  pub checks-many : tooMany full e ≡ true → passed (checks c e) ≡ Refused 3
-  unfolding checks
-  checks-many h = passed-here (tooMany full e) 3 ((badLog c (e .log) ⇒ 9) ∷ entryRefusals full e) h
-
-  module _ (few : tooMany full e ≡ false) where
-    -- then the log number
-    pub checks-log : badLog c (e .log) ≡ true → passed (checks c e) ≡ Refused 9
-    unfolding checks
-    checks-log h =
-        passed-later (tooMany full e) 3 ((badLog c (e .log) ⇒ 9) ∷ entryRefusals full e) few ∙ passed-here (badLog c (e .log)) 9 (entryRefusals full e) h
-
-    -- then the pointers, and after them the files
-    pub checks-entries : badLog c (e .log) ≡ false
-        → passed (checks c e) ≡ passed (pointerRefusals full (e .pointers) ++ (deletionRefusals full (e .deletions) ++ additionRefusals full (e .additions)))
-    unfolding checks entryRefusals
-    checks-entries h =
-        passed-later (tooMany full e) 3 ((badLog c (e .log) ⇒ 9) ∷ entryRefusals full e) few
-        ∙ passed-later (badLog c (e .log)) 9 (entryRefusals full e) h
-        ∙ ap passed (append-assoc (pointerRefusals full (e .pointers)) (deletionRefusals full (e .deletions)) (additionRefusals full (e .additions)))
-
--- ---- what the tests say of an edit that passes them
-pub record Checked (c : model-file.Counters) (e : model.Edit) : Type 0 where
-  -- 3
-  pub few : tooMany full e ≡ false
-  -- 9
-  pub log : badLog c (e .log) ≡ false
-  -- 1 and 2 of pointers
-  pub pointer-levels : all (λ q. ltb (q .level) (full .levels)) (e .pointers) ≡ true
-  pub pointer-keys : all (λ q. goodKey (full .longest) (q .key)) (e .pointers) ≡ true
-  -- 1 of deletions
-  pub deletion-levels : all (λ d. ltb (d .level) (full .levels)) (e .deletions) ≡ true
-  -- 1 of additions; 2, 4, 5 of them
-  pub addition-levels : all (λ a. ltb (a .level) (full .levels)) (e .additions) ≡ true
-  pub files : all (λ a. goodFile full (a .file)) (e .additions) ≡ true
-
--- the file of an addition that fits
-fits-file : (a : model.Addition) → AdditionFits full a → goodFile full (a .file) ≡ true
-unfolding goodFile
-fits-file a f =
-    let s = goodKey (full .longest) (a .file .smallest) in
-    let t = goodKey (full .longest) (a .file .largest) in
-    let o = not (before (a .file .largest) (a .file .smallest)) in
-    both (s && t && o) (leb (a .file .size) maxSize) (both (s && t) o (both s t (f .smallest) (f .largest)) (rw (f .order))) (le-leb (a .file .size) maxSize (f .size))
-
--- done: each test has failed
-pub checks-say : (c : model-file.Counters) (e : model.Edit) → passed (checks c e) ≡ Done → Checked c e
-unfolding checks entryRefusals _⇒_
-checks-say c e h =
-    let none = passed-none (checks c e) h in
-    let ps = pointerRefusals full (e .pointers) in
-    let ds = deletionRefusals full (e .deletions) in
-    let xs = additionRefusals full (e .additions) in
-    let at : NoneApplies (entryRefusals full e) = λ r m. none r (there (there m)) in
-    let pointers = pointers-fit full (e .pointers) .0 (λ r m. at r (in-left xs (in-left ds m))) in
-    let deletions = deletions-fit full (e .deletions) .0 (λ r m. at r (in-left xs (in-right ps m))) in
-    let additions = additions-fit full (e .additions) .0 (λ r m. at r (in-right (ps ++ ds) m)) in
-    record {
-      few = none (tooMany full e ⇒ 3) (here refl);
-      log = none (badLog c (e .log) ⇒ 9) (there (here refl));
-      pointer-levels = all-in (λ q. ltb (q .level) (full .levels)) (e .pointers) .1 (λ q m. lt-ltb (q .level) (full .levels) (pointers q m .level));
-      pointer-keys = all-in (λ q. goodKey (full .longest) (q .key)) (e .pointers) .1 (λ q m. pointers q m .key);
-      deletion-levels = all-in (λ d. ltb (d .level) (full .levels)) (e .deletions) .1 (λ d m. lt-ltb (d .level) (full .levels) (deletions d m .level));
-      addition-levels = all-in (λ a. ltb (a .level) (full .levels)) (e .additions) .1 (λ a m. lt-ltb (a .level) (full .levels) (additions a m .level));
-      files = all-in (λ a. goodFile full (a .file)) (e .additions) .1 (λ a m. fits-file a (additions a m));
-    }

@@ -18,7 +18,8 @@ use Rattle.edits.specs.Edit.{editOf}
 use Rattle.picked.specs.Picked.{pickOf}
 use Rattle.store.specs.declared.Store.{Store}
 use Rattle.store.specs.declared.Stored.{Stored}
-use Rattle.store.specs.Store.{storeOf, onStore, stored, handed}
+use Rattle.store.specs.Store.{storeOf, onStore, stored}
+use Rattle.numbering.specs.Numbering.{handed}
 use Rattle.writing.specs.Writing.{snapshotOf}
 
 -- the code's calls that change a store: edits, size picks with a maximum file size, manual picks with their level and range too, and counter calls

@@ -36,8 +36,9 @@ use Rattle.keys.specs.Key.{keyOf}
 use Rattle.picked.specs.Picked.{pickOf}
 use Rattle.store.specs.declared.Store.{Store}
 use Rattle.store.specs.declared.Stored.{Stored}
-use Rattle.store.specs.Store.{stateOf, storeOf, wellStore, onStore, leaves, stored, refusedBy, handed}
+use Rattle.store.specs.Store.{stateOf, storeOf, wellStore, onStore, leaves, stored, refusedBy}
 use Rattle.store.specs.StoreLaws as store
+use Rattle.numbering.specs.Numbering.{handed}
 use Rattle.writing.specs.Writing.{snapshotOf}
 use Rattle.writing.specs.WritingLaws.{written-ill, written-well, snapshot-most}
 use Rattle.histories.specs.History.{Call, apply, pickSize, pickRange, newNumber, reuseNumber, markNumber, setLast, setManifest, setPrevious, called, callOf, Passable, freshStore, ran, written, readBack}

@@ -39,7 +39,7 @@ pub fn after_manual_pick(s: Store, maximum: u64, level: usize, start: Key, stop:
 pub fn after_new(s: Store) -> Store
     ensures { λ r. ⌜ r ≡ called s newNumber ⌝ }
 {
-    let a = store::new_file_number(s);
+    let a = numbering::new_file_number(s);
     let t = a.store;
     t
 }
@@ -48,7 +48,7 @@ pub fn after_new(s: Store) -> Store
 pub fn after_reuse(s: Store, n: FileNumber) -> Store
     ensures { λ r. ⌜ r ≡ called s (reuseNumber n) ⌝ }
 {
-    let a = store::reuse_file_number(s, n);
+    let a = numbering::reuse_file_number(s, n);
     let t = a.store;
     t
 }
@@ -57,7 +57,7 @@ pub fn after_reuse(s: Store, n: FileNumber) -> Store
 pub fn after_mark(s: Store, n: FileNumber) -> Store
     ensures { λ r. ⌜ r ≡ called s (markNumber n) ⌝ }
 {
-    let a = store::mark_file_number_used(s, n);
+    let a = numbering::mark_file_number_used(s, n);
     let t = a.store;
     t
 }
@@ -66,7 +66,7 @@ pub fn after_mark(s: Store, n: FileNumber) -> Store
 pub fn after_last(s: Store, n: SequenceNumber) -> Store
     ensures { λ r. ⌜ r ≡ called s (setLast n) ⌝ }
 {
-    let a = store::set_last_sequence(s, n);
+    let a = numbering::set_last_sequence(s, n);
     let t = a.store;
     t
 }
@@ -75,7 +75,7 @@ pub fn after_last(s: Store, n: SequenceNumber) -> Store
 pub fn after_manifest(s: Store, n: FileNumber) -> Store
     ensures { λ r. ⌜ r ≡ called s (setManifest n) ⌝ }
 {
-    let a = store::set_manifest_number(s, n);
+    let a = numbering::set_manifest_number(s, n);
     let t = a.store;
     t
 }
@@ -84,7 +84,7 @@ pub fn after_manifest(s: Store, n: FileNumber) -> Store
 pub fn after_previous(s: Store, n: FileNumber) -> Store
     ensures { λ r. ⌜ r ≡ called s (setPrevious n) ⌝ }
 {
-    let a = store::set_previous_log(s, n);
+    let a = numbering::set_previous_log(s, n);
     let t = a.store;
     t
 }

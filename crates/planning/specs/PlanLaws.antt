@@ -17,11 +17,12 @@ use Rattle.records.specs.RecordLaws.{column-run}
 use Rattle.records.specs.Run.{run}
 use Rattle.records.specs.declared.FileRecord.{FileRecord}
 use Rattle.levels.specs.Levels.{levelsOf}
-use Rattle.edits.specs.Edit.{editOf, additionOf, passed}
+use Rattle.edits.specs.Edit.{editOf, additionOf}
 use Rattle.edits.specs.EditLaws.{HasRoom, Few}
 use Rattle.edits.specs.declared.Edit.{Edit}
 use Rattle.edits.specs.declared.Deletion.{Deletion}
 use Rattle.edits.specs.declared.Addition.{Addition}
+use Rattle.entries.specs.Entries.{passed}
 use Rattle.stayers.specs.Stayers.{recordNumber, staysBy, stayersBy, numberAt, placesOf, isBelow, keptOf, recordsAt}
 use Rattle.stayers.specs.StayLaws.{staysIn, stayers-few}
 use Rattle.stayers.specs.PlaceLaws as place

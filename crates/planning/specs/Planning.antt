@@ -13,7 +13,8 @@ use Rattle.keys.specs.Key.{keyRecord}
 use Rattle.keys.specs.declared.Key.{Key}
 use Rattle.records.specs.Record.{recordOf, vacant}
 use Rattle.records.specs.declared.FileRecord.{FileRecord}
-use Rattle.edits.specs.Edit.{additionOf, passed}
+use Rattle.edits.specs.Edit.{additionOf}
+use Rattle.entries.specs.Entries.{passed}
 use Rattle.edits.specs.declared.Deletion.{Deletion}
 use Rattle.edits.specs.declared.Addition.{Addition}
 use Rattle.edits.specs.declared.Edit.{Edit}

@@ -163,7 +163,7 @@ fn handed(o: Outcome, n: FileNumber) -> Reply {
 
 // A number for a new file.
 fn newnum(s: Store) -> Store {
-    let h = store::new_file_number(s);
+    let h = numbering::new_file_number(s);
     let o = h.outcome;
     replies::tell(handed(o, h.number));
     h.store
@@ -193,21 +193,21 @@ fn count(s: Store, line: &[u8], w: Parts) -> Store {
         return unchanged(s, texts::NUMBER);
     }
     if w.name == texts::REUSE {
-        return told_next(store::reuse_file_number(s, FileNumber(n.value)));
+        return told_next(numbering::reuse_file_number(s, FileNumber(n.value)));
     }
-    told_next(store::mark_file_number_used(s, FileNumber(n.value)))
+    told_next(numbering::mark_file_number_used(s, FileNumber(n.value)))
 }
 
 // A counter of a name set.
 fn set_named(s: Store, counter: u64, n: u64) -> Store {
     if counter == texts::SEQ {
-        return told(store::set_last_sequence(s, SequenceNumber(n)));
+        return told(numbering::set_last_sequence(s, SequenceNumber(n)));
     }
     if counter == texts::MANIFEST {
-        return told(store::set_manifest_number(s, FileNumber(n)));
+        return told(numbering::set_manifest_number(s, FileNumber(n)));
     }
     if counter == texts::PREV {
-        return told(store::set_previous_log(s, FileNumber(n)));
+        return told(numbering::set_previous_log(s, FileNumber(n)));
     }
     unchanged(s, texts::COUNTER)
 }

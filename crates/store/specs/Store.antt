@@ -3,21 +3,18 @@ use Prim.Native.Nat.{ℕ}
 use mathlib.Core.Bool.{Bool, true, false, _&&_, _||_, cond}
 use mathlib.Core.List.{List, [], map}
 use mathlib.Core.Option.{Option, none, some}
-use lib.Dec.{eqb, ltb}
+use lib.Dec.{eqb}
 use Rattle.lemmas.specs.Lists.{all}
 use Rattle.model.specs.Answer.{Answer, gives, refused}
 use Rattle.model.specs.File as model
-use Rattle.model.specs.File.{State, full, wellFormed, maxCounter}
-use Rattle.model.specs.Calls as calls
+use Rattle.model.specs.File.{State, full, wellFormed}
 use Rattle.answers.specs.Outcome.{outcomeOf}
 use Rattle.keys.specs.Key.{keyOf, keyRecord, soundKey}
 use Rattle.counters.specs.Counters.{countersOf, countersRecord}
-use Rattle.counters.specs.declared.Counters.{Counters}
 use Rattle.levels.specs.Levels.{levelsOf, laidOut, countsOf, soundLevels}
 use Rattle.store.specs.declared.Pointer.{Pointer}
 use Rattle.store.specs.declared.Store.{Store}
 use Rattle.store.specs.declared.Stored.{Stored}
-use Rattle.store.specs.declared.Handed.{Handed}
 
 -- the pointer that a record stands for, and the one record that is kept of it
 unfoldable pub pointerOf : Pointer → Option (List ℕ)
@@ -73,16 +70,3 @@ stored s a = record { outcome = outcomeOf a; store = leaves s a }
 -- the store as it was, with the number of the refusal
 unfoldable pub refusedBy : Store → ℕ → Stored
 refusedBy s n = stored s (refused n)
-
--- the same store with other counters
-unfoldable pub counting : Store → Counters → Stored
-counting s c = record { outcome = outcomeOf (gives s); store = record { files = s .files; counts = s .counts; pointers = s .pointers; counters = c } }
-
--- the same store with other counters, one of them set to n: 14 where the store is not well-formed, 9 where n is beyond a counter's bound
-unfoldable pub setting : Store → ℕ → Counters → Stored
-setting s n c = cond (wellStore s) (cond (ltb maxCounter n) (refusedBy s 9) (counting s c)) (refusedBy s 14)
-
--- the answer of `new`: the number that is handed out, 0 where none is
-unfoldable pub handed : Store → Answer calls.Handed → Handed
-handed s (gives h) = record { outcome = outcomeOf (gives h); number = record { 0 = h .number }; store = storeOf (h .after) }
-handed s (refused n) = record { outcome = outcomeOf {A = calls.Handed} (refused n); number = record { 0 = 0 }; store = s }

@@ -1,41 +1,32 @@
 -- Laws of the store: one state has one sound store, what well-formed says, and what a call on a store answers. Assumes nothing.
-use Prim.Native.Nat.{ℕ, suc, _+_, _≤_, _<_}
+use Prim.Native.Nat.{ℕ}
 use mathlib.Core.Path.{_≡_, refl, sym, ap, _∙_}
 use mathlib.Core.Logic.{_↔_}
 use mathlib.Core.Bool.{Bool, true, false, _&&_, _||_, cond}
 use mathlib.Core.List.{List, [], _∷_, map}
 use mathlib.Core.Option.{Option, none, some}
 use native.Mathlib.Omega.{arith}
-use native.Mathlib.Numerals.{add-one}
-use lib.Dec.{eqb, ltb}
+use lib.Dec.{eqb}
 use lib.ListN.{length, getD, length-map, List·getD-map}
-use borrow.Author.Tests.{eq-eqb, ne-eqb, le-leb, lt-leb}
+use borrow.Author.Tests.{eq-eqb}
 use Rattle.lemmas.specs.Lists.{all}
 use Rattle.lemmas.specs.ListLaws.{and-left, and-right, and-true, both, all-in}
 use Rattle.lemmas.specs.Maps.{all-both}
 use Rattle.lemmas.specs.Each.{Each}
-use Rattle.model.specs.Answer.{Answer, gives, refused, _⇒_, firstOf, onAnswer}
+use Rattle.model.specs.Answer.{Answer, refused}
 use Rattle.model.specs.Key.{goodKey}
-use Rattle.model.specs.File as model
-use Rattle.model.specs.File.{State, full, level, wellFormed, goodFiles, goodPointer, goodCounters, maxCounter, setCounters}
-use Rattle.model.specs.Counters.{CounterCall, new, reuse, mark, counted, counterBeyond, counter}
-use Rattle.model.specs.Calls as calls
-use Rattle.model.specs.CounterLaws.{new-is}
+use Rattle.model.specs.File.{State, full, level, wellFormed, goodFiles, goodPointer, goodCounters}
 use Rattle.model.specs.Formed.{formed-says}
-use Rattle.answers.specs.declared.Outcome.the-variants.{Done}
-use Rattle.answers.specs.Outcome.{outcomeOf}
 use Rattle.keys.specs.Key.{keyOf, keyRecord, soundKey}
 use Rattle.keys.specs.KeyLaws as key
 use Rattle.counters.specs.Counters.{countersOf, countersRecord}
-use Rattle.counters.specs.declared.Counters.{Counters}
 use Rattle.records.specs.Record.{blankKey}
 use Rattle.records.specs.RecordLaws.{AllShaped, blank-key-is}
 use Rattle.levels.specs.Levels.{levelsOf, laidOut, countsOf, soundLevels, wellLevels}
 use Rattle.levels.specs.LevelsLaws as levels
 use Rattle.store.specs.declared.Pointer.{Pointer}
 use Rattle.store.specs.declared.Store.{Store}
-use Rattle.store.specs.declared.Handed.{Handed}
-use Rattle.store.specs.Store.{pointerOf, pointerRecord, soundPointer, wellPointer, stateOf, storeOf, soundStore, wellStore, onStore, leaves, stored, refusedBy, counting, setting, handed}
+use Rattle.store.specs.Store.{pointerOf, pointerRecord, soundPointer, wellPointer, stateOf, storeOf, soundStore, wellStore, onStore}
 
 -- ---- pointers
 
@@ -294,110 +285,3 @@ onStore-ill {A} s call k h = go (soundStore s) h
     go : (t : Bool) → (t && wellFormed full (stateOf s)) ≡ false → _≡_ {A = Answer A} (cond t (call (stateOf s)) (refused 14)) (refused 14)
     go true e = k e
     go false e = refl
-
--- the store with other counters holds the state with other counters
-pub other-counters : (s : Store) → Shape s → soundStore s ≡ true → (c : Counters)
-    → record { files = s .files; counts = s .counts; pointers = s .pointers; counters = c } ≡ storeOf (setCounters (stateOf s) (countersOf c))
-unfolding storeOf stateOf setCounters countersOf countersRecord
-other-counters s q h c =
-    let e = canonical s q h in
-    λ i. record { files = e i .files; counts = e i .counts; pointers = e i .pointers; counters = c }
-
--- ---- the counter calls
-
--- on a state: not well-formed, beyond a counter's bound, neither
-module _ (t : State) (d : CounterCall) where
-  counter-ill : wellFormed full t ≡ false → counter full t d ≡ refused 14
-  unfolding counter firstOf _⇒_
-  counter-ill h = rw h
-
-  counter-beyond : wellFormed full t ≡ true → counterBeyond d (t .counters) ≡ true → counter full t d ≡ refused 9
-  unfolding counter firstOf _⇒_
-  counter-beyond h b = rw (h, b)
-
-  counter-gives : wellFormed full t ≡ true → counterBeyond d (t .counters) ≡ false → counter full t d ≡ gives (setCounters t (counted d (t .counters)))
-  unfolding counter firstOf _⇒_
-  counter-gives h b = rw (h, b)
-
--- on a store
-module _ (s : Store) (d : CounterCall) where
-  -- a store that is not well-formed
-  pub count-ill : wellStore s ≡ false → refusedBy s 14 ≡ stored s (onStore s (λ t. counter full t d))
-  unfolding refusedBy
-  count-ill h = ap (stored s) (sym (onStore-ill s (λ t. counter full t d) (counter-ill (stateOf s) d) h))
-
-  -- a counter that would go beyond its bound
-  pub count-beyond : wellStore s ≡ true → counterBeyond d (countersOf (s .counters)) ≡ true → refusedBy s 9 ≡ stored s (onStore s (λ t. counter full t d))
-  unfolding refusedBy stateOf
-  count-beyond h b = ap (stored s) (sym (onStore-well s (λ t. counter full t d) h ∙ counter-beyond (stateOf s) d (well-says s .0 h .formed) b))
-
-  -- else the same store with the counters that the call leaves
-  pub count-done : Shape s → (c : Counters) → wellStore s ≡ true → counterBeyond d (countersOf (s .counters)) ≡ false → countersOf c ≡ counted d (countersOf (s .counters))
-      → counting s c ≡ stored s (onStore s (λ t. counter full t d))
-  unfolding counting stored leaves outcomeOf stateOf
-  count-done q c h b e =
-      let w = well-says s .0 h in
-      let a = onStore-well s (λ t. counter full t d) h ∙ counter-gives (stateOf s) d (w .formed) b in
-      let kept = other-counters s q (w .sound) c ∙ ap (λ (x : model.Counters). storeOf (setCounters (stateOf s) x)) e in
-      (λ i. record { outcome = outcomeOf {A = State} (gives (stateOf s)); store = kept i }) ∙ ap (stored s) (sym a)
-
--- a setter's answer is that of its call
-pub setting-is : (s : Store) (d : CounterCall) (n : ℕ) (c : Counters) → Shape s → counterBeyond d (countersOf (s .counters)) ≡ ltb maxCounter n
-    → countersOf c ≡ counted d (countersOf (s .counters)) → setting s n c ≡ stored s (onStore s (λ t. counter full t d))
-unfolding setting
-setting-is s d n c q b e = go (wellStore s) refl (ltb maxCounter n) b
-  where
-    go : (w : Bool) → wellStore s ≡ w → (t : Bool) → counterBeyond d (countersOf (s .counters)) ≡ t
-        → cond w (cond t (refusedBy s 9) (counting s c)) (refusedBy s 14) ≡ stored s (onStore s (λ t. counter full t d))
-    go false h t b = count-ill s d h
-    go true h true b = count-beyond s d h b
-    go true h false b = count-done s d q c h b e
-
--- new hands out next
-module _ (s : Store) where
-  -- the state after it, with the number beside it
-  abbrev with-next : State → calls.Handed
-  with-next t = record { number = s .counters .next .0; after = t }
-
-  new-on : wellStore s ≡ true → onStore s (calls.newNumber full) ≡ onAnswer with-next (counter full (stateOf s) new)
-  unfolding stateOf countersOf
-  new-on h = onStore-well s (calls.newNumber full) h ∙ new-is full (stateOf s)
-
-  pub new-ill : wellStore s ≡ false → handed s (refused 14) ≡ handed s (onStore s (calls.newNumber full))
-  unfolding onAnswer stateOf countersOf
-  new-ill h = ap (handed s) (sym (onStore-ill s (calls.newNumber full) (λ e. new-is full (stateOf s) ∙ ap (onAnswer with-next) (counter-ill (stateOf s) new e)) h))
-
-  pub new-beyond : wellStore s ≡ true → counterBeyond new (countersOf (s .counters)) ≡ true → handed s (refused 9) ≡ handed s (onStore s (calls.newNumber full))
-  unfolding onAnswer stateOf
-  new-beyond h b = ap (handed s) (sym (new-on h ∙ ap (onAnswer with-next) (counter-beyond (stateOf s) new (well-says s .0 h .formed) b)))
-
-  pub new-done : Shape s → (c : Counters) → wellStore s ≡ true → counterBeyond new (countersOf (s .counters)) ≡ false → countersOf c ≡ counted new (countersOf (s .counters))
-      → record { outcome = Done; number = s .counters .next; store = record { files = s .files; counts = s .counts; pointers = s .pointers; counters = c } } ≡ handed s (onStore s (calls.newNumber full))
-  unfolding handed outcomeOf onAnswer stateOf
-  new-done q c h b e =
-      let w = well-says s .0 h in
-      let a = new-on h ∙ ap (onAnswer with-next) (counter-gives (stateOf s) new (w .formed) b) in
-      let kept = other-counters s q (w .sound) c ∙ ap (λ (x : model.Counters). storeOf (setCounters (stateOf s) x)) e in
-      (λ i. record { outcome = Done; number = s .counters .next; store = kept i }) ∙ ap (handed s) (sym a)
-
--- what mark and reuse leave of next
-module _ (n : ℕ) (c : Counters) where
-  -- the same counters with another next
-  abbrev pub nextIs : ℕ → Counters
-  nextIs m = record { next = record { 0 = m }; manifest = c .manifest; last = c .last; log = c .log; previous = c .previous }
-
-  pub mark-up : c .next .0 ≤ n → countersOf (nextIs (n + 1)) ≡ counted (mark n) (countersOf c)
-  unfolding countersOf counted
-  mark-up h = rw (le-leb (c .next .0) n h, add-one)
-
-  pub mark-kept : n < c .next .0 → countersOf c ≡ counted (mark n) (countersOf c)
-  unfolding countersOf counted
-  mark-kept h = rw (lt-leb (c .next .0) n h)
-
-  pub reuse-down : n + 1 ≡ c .next .0 → countersOf (nextIs n) ≡ counted (reuse n) (countersOf c)
-  unfolding countersOf counted
-  reuse-down h = let e : suc n ≡ c .next .0 = omega arith in rw (eq-eqb (suc n) (c .next .0) e)
-
-  pub reuse-kept : (n + 1 ≡ c .next .0 → ⊥) → countersOf c ≡ counted (reuse n) (countersOf c)
-  unfolding countersOf counted
-  reuse-kept h = rw (ne-eqb (suc n) (c .next .0) (λ e. h (omega arith)))

@@ -9,9 +9,10 @@ use Rattle.records.proofs.Shape.{shapes}
 use Rattle.store.specs.Store.{stateOf, wellStore}
 use Rattle.store.specs.StoreLaws.{Shape}
 use Rattle.store.proofs.Shape.{shape}
-use Rattle.edits.specs.Edit.{editOf, passed, checks}
+use Rattle.edits.specs.Edit.{editOf}
 use Rattle.edits.specs.EditLaws.{HasRoom}
 use Rattle.edits.proofs.Shape.{has-room}
+use Rattle.entries.specs.Entries.{passed, checks}
 use Rattle.apply.specs.EditedLaws.{apply-ill, apply-unfit}
 use Rattle.apply.specs.TestedLaws as tested
 use Rattle.apply.proofs.apply.Statement.{statement}

@@ -1,7 +1,7 @@
 -- `histories::after_new` leaves what the definition of histories says. Assumes nothing.
 use mathlib.Core.Path.{ap}
 use borrow.Author.Needs.{needs}
-use Rattle.store.specs.declared.Handed.{Handed}
+use Rattle.numbering.specs.declared.Handed.{Handed}
 use Rattle.histories.specs.History.{called}
 use Rattle.histories.proofs.after_new.Statement.{statement}
 use Rattle.histories.proofs.after_new.Tie as tie

@@ -14,9 +14,9 @@ use Rattle.lemmas.specs.Merge.{front-laid}
 use Rattle.model.specs.Answer.{_⇒_}
 use Rattle.model.specs.File.{full}
 use Rattle.keys.specs.declared.Key.{Key}
-use Rattle.edits.specs.Edit.{passed}
 use Rattle.edits.specs.declared.Deletion.{Deletion}
 use Rattle.edits.specs.declared.Addition.{Addition}
+use Rattle.entries.specs.Entries.{passed}
 use Rattle.stayers.specs.Stayers.{staysBy, stayersBy, numberAt, placesOf, isBelow, keptOf}
 use Rattle.stayers.specs.declared.Kept.{Kept}
 use Rattle.stayers.specs.PlaceLaws.{below-of}
