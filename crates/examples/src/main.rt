@@ -1,12 +1,12 @@
 // Document 01's examples of keys, records and edits, each refusal of an edit, and snapshots written, damaged and read, run on the proved code.
 ghost use mathlib.Core.Path.{_≡_};
 use answers::Outcome;
+use comparing::Compared;
 use edits::Addition;
 use edits::Deletion;
 use edits::Edit;
 use edits::NewLog;
 use edits::Pointing;
-use keys::Compared;
 use keys::FileNumber;
 use keys::Key;
 use store::Store;
@@ -103,13 +103,13 @@ fn print_stored(r: Stored) {
 // Keys compared.
 fn example_keys() {
     print(b"E1 b@5, b@4:");
-    print_compared(keys::compare(key(b'b', 5), key(b'b', 4)));
+    print_compared(comparing::compare(key(b'b', 5), key(b'b', 4)));
     print(b"; b@4, c@9:");
-    print_compared(keys::compare(key(b'b', 4), key(b'c', 9)));
+    print_compared(comparing::compare(key(b'b', 4), key(b'c', 9)));
     print(b"\nvalue and deletion of one sequence:");
-    print_compared(keys::compare(key(b'b', 5), typed_key(b'b', 5, 0)));
+    print_compared(comparing::compare(key(b'b', 5), typed_key(b'b', 5, 0)));
     print(b"\ntype 2:");
-    print_compared(keys::compare(key(b'b', 5), typed_key(b'b', 5, 2)));
+    print_compared(comparing::compare(key(b'b', 5), typed_key(b'b', 5, 2)));
     print(b"\n");
 }
 

@@ -1,3 +1,2 @@
 pub mod Key
 pub mod KeyLaws
-pub mod KeyCalls

@@ -6,13 +6,9 @@ ghost use lib.Dec.{leb};
 ghost use lib.ListN.{length};
 ghost use Rattle.lemmas.specs.Lists.{all};
 ghost use Rattle.model.specs.Key as model;
-ghost use Rattle.model.specs.Calls.{compareKeys, parseKey};
 ghost use Rattle.model.specs.File.{full};
 ghost use Rattle.octets.specs.Octets.{standing, isZero};
 ghost use Rattle.keys.specs.Key.{keyOf, userOf, keyRecord, userRecord, soundKey, soundUser, larger, laid};
-ghost use Rattle.keys.specs.KeyCalls.{comparedOf, parsed};
-use answers::Outcome;
-use answers::Refusal;
 use octets::Order;
 
 // The number of a table file. No call takes it where a sequence number is meant.
@@ -316,61 +312,4 @@ pub fn blank_key() -> Key
     ensures { λ r. ⌜ r ≡ keyRecord [] ⌝ }
 {
     BLANK_KEY
-}
-
-// The answer of `compare`: how two keys stand, or the number of the refusal.
-pub enum Compared {
-    Before,
-    Same,
-    After,
-    Refused(u8),
-}
-
-// The parts of a key, with the number of a refusal or none.
-pub struct Parsed {
-    pub outcome: Outcome,
-    pub kind: u8,
-    pub sequence: SequenceNumber,
-    pub user: UserKey,
-}
-
-// How two internal keys stand: by user key, then the larger sequence first. A key of wrong length or type is refused.
-pub fn compare(a: Key, b: Key) -> Compared
-    ensures { λ r. ⌜ comparedOf r ≡ compareKeys full (keyOf a) (keyOf b) ⌝ }
-{
-    if !is_good(a) {
-        return Compared::Refused(Refusal::KEY);
-    }
-    if !is_good(b) {
-        return Compared::Refused(Refusal::KEY);
-    }
-    let o = order_of_keys(a, b);
-    match o {
-        Order::Less => Compared::Before,
-        Order::Equal => Compared::Same,
-        Order::Greater => Compared::After,
-    }
-}
-
-// The parts of an internal key: type, sequence and user key. A key of wrong length or type is refused.
-pub fn parse_internal_key(k: Key) -> Parsed
-    ensures { λ r. ⌜ r ≡ parsed (parseKey full (keyOf k)) ⌝ }
-{
-    if !is_good(k) {
-        let outcome = Outcome::Refused(Refusal::KEY);
-        let none = BLANK_KEY;
-        return Parsed {
-            outcome: outcome,
-            kind: 0,
-            sequence: SequenceNumber(0),
-            user: user_key(none),
-        };
-    }
-    let outcome = Outcome::Done;
-    Parsed {
-        outcome: outcome,
-        kind: kind(k),
-        sequence: sequence(k),
-        user: user_key(k),
-    }
 }

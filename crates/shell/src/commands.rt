@@ -6,8 +6,8 @@ use crate::replies;
 use crate::replies::Reply;
 use crate::texts;
 use answers::Outcome;
-use keys::Compared;
-use keys::Parsed;
+use comparing::Compared;
+use comparing::Parsed;
 use lists::FileList;
 use lists::Ranged;
 use lists::Totalled;
@@ -45,7 +45,7 @@ fn cmp(line: &[u8], w: Parts) -> Reply {
     if !k.fine {
         return Reply::Bad(texts::KEY);
     }
-    let c = keys::compare(k.low, k.high);
+    let c = comparing::compare(k.low, k.high);
     match c {
         Compared::Before => Reply::Text(texts::BEFORE),
         Compared::Same => Reply::Text(texts::SAME),
@@ -77,7 +77,7 @@ fn parse(line: &[u8], w: Parts) {
     if !k.fine {
         return replies::refuse(texts::KEY);
     }
-    let p = keys::parse_internal_key(k.key);
+    let p = comparing::parse_internal_key(k.key);
     let o = p.outcome;
     match o {
         Outcome::Refused(n) => replies::tell(Reply::Refused(n)),

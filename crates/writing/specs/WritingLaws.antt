@@ -1,31 +1,26 @@
--- Laws of snapshots in lent bytes: what each writer lays down, how long it is, and what a well-formed store's snapshot is. Assumes nothing.
+-- Laws of snapshots in lent bytes: how long levels and stores are, and what a well-formed store's snapshot is. Assumes nothing.
 use Prim.Native.Nat.{ℕ, _+_, _*_, _≤_, _<_, min}
 use mathlib.Core.Path.{_≡_, refl, sym, ap, _∙_}
-use mathlib.Core.Bool.{true, false, _&&_, _||_}
-use mathlib.Core.List.{List, [], _∷_, _++_, map, map-append, map-map, append-assoc, append-nil, List·Memᴰ as In}
+use mathlib.Core.Bool.{true, false, _&&_}
+use mathlib.Core.List.{List, [], _∷_, _++_, map, map-append, map-map, List·Memᴰ as In}
 use native.Mathlib.Omega.{arith}
-use native.Mathlib.Numerals.{add-one}
-use lib.Dec.{eqb, leb}
-use borrow.Author.Tests.{leb-true, lt-ltb, le-ltb}
-use lib.ListN.{length, getD, take, drop, length-append, length-map, drop-of-length-le, List·getD-map}
+use borrow.Author.Tests.{lt-ltb, le-ltb}
+use lib.ListN.{length, getD, take, drop, length-append, length-map, List·getD-map}
 use lib.Seq.{slice, length-take-le, take-all, getD-take}
 use Rattle.lemmas.specs.Lists.{all, sort, join, sum, upFrom}
 use Rattle.lemmas.specs.ListLaws.{and-left, and-right, both, sort-in, sort-length, getD-in, upFrom-in}
 use Rattle.lemmas.specs.Little.{bytes, bytes-length}
-use Rattle.lemmas.specs.Slices.{put, put-whole, put-front, rest-cons, join-append, take-map, drop-map, take-drop, at-view, length-view}
+use Rattle.lemmas.specs.Slices.{put, put-whole, put-front, join-append, take-map, drop-map, take-drop, at-view, length-view}
 use Rattle.lemmas.specs.UpFrom.{upFrom-length}
 use Rattle.lemmas.specs.Merge.{all-at, front-laid}
 use Rattle.lemmas.specs.Maps.{map-same-in, sort-same}
 use Rattle.lemmas.specs.Laying.{put-next, sorted-length, sorted-places, map-places}
 use Rattle.model.specs.Answer.{Answer, gives, refused, firstOf, _⇒_, lent}
-use Rattle.model.specs.File.{File, State, full, level, numbers, wellFormed, goodFile, goodCounters, goodPointer}
+use Rattle.model.specs.File.{File, State, full, level, numbers, wellFormed, goodFile, goodCounters}
 use Rattle.model.specs.Calls as calls
 use Rattle.model.specs.Formed.{formed-says}
-use Rattle.model.specs.Snapshot.{byNumber, writeKey, writeFile, Entry, entries, writeEntry, section, writeLevel, fiveOf, encode}
-use Rattle.model.specs.SnapshotLaws.{section-length, writeKey-length, writeFile-length, writeEntry-length, encode-most}
-use Rattle.keys.specs.declared.Key.{Key}
-use Rattle.keys.specs.Key.{keyOf, isZero, sound, soundKey}
-use Rattle.keys.specs.KeyLaws.{held-in}
+use Rattle.model.specs.Snapshot.{byNumber, writeFile, entries, writeEntry, section, writeLevel, fiveOf, encode}
+use Rattle.model.specs.SnapshotLaws.{section-length, encode-most}
 use Rattle.counters.specs.Counters.{countersOf}
 use Rattle.records.specs.declared.FileRecord.{FileRecord}
 use Rattle.records.specs.Record.{fileOf, soundRecord, wellRecord}
@@ -34,132 +29,11 @@ use Rattle.records.specs.Run.{run}
 use Rattle.levels.specs.Levels.{levelsOf, wellLevels}
 use Rattle.levels.specs.LevelsLaws as levels
 use Rattle.sorting.specs.Sorting.{byNumberAt}
-use Rattle.store.specs.declared.Pointer.{Pointer}
 use Rattle.store.specs.declared.Store.{Store}
-use Rattle.store.specs.Store.{pointerOf, soundPointer, wellPointer, stateOf, wellStore}
+use Rattle.store.specs.Store.{pointerOf, wellPointer, stateOf, wellStore}
 use Rattle.store.specs.StoreLaws as store
 use Rattle.writing.specs.Writing.{writtenOf, snapshotOf}
 use Rattle.writing.specs.declared.Written.the-variants.{Bytes, Refused}
-
--- ---- keys
-
--- a key of a sound record is within its room
-pub sound-short : (k : Key) → soundKey k ≡ true → k .len ≤ 40
-unfolding soundKey sound
-sound-short k s = leb-true (k .len) 40 (and-left (leb (k .len) 40) (all isZero (drop (k .len) (k .bytes))) s)
-
--- it has as many bytes as its length says
-pub key-long : (k : Key) → length (k .bytes) ≡ 40 → k .len ≤ 40 → length (keyOf k) ≡ k .len
-unfolding keyOf
-key-long k q h = rw (held-in 40 (k .bytes) (k .len) h) (length-take-le (k .len) (k .bytes) (omega arith))
-
--- ---- files
-
--- the keys of a well-formed record are within their room
-pub record-short : (r : FileRecord) → wellRecord r ≡ true → (r .smallest .len ≤ 40) × (r .largest .len ≤ 40)
-record-short r h =
-    let s = records.sound-says r .0 (records.well-says r .0 h .0) in
-    (sound-short (r .smallest) (s .smallest), sound-short (r .largest) (s .largest))
-
--- 16 bytes and what is written of the keys
-pub writeFile-parts : (f : File) → length (writeFile f) ≡ 16 + length (writeKey (f .smallest)) + length (writeKey (f .largest))
-writeFile-parts f = omega (arith, writeFile-length f, writeKey-length (f .smallest), writeKey-length (f .largest))
-
--- the four parts of a file, one after another
-pub file-laid : (f : File) (out o₁ o₂ o₃ o₄ : List ℕ) (at next : ℕ) → at + length (writeFile f) ≤ length out → o₁ ≡ put out at (bytes 8 (f .number)) → o₂ ≡ put o₁ (at + 8) (bytes 8 (f .size))
-    → o₃ ≡ put o₂ (at + 16) (writeKey (f .smallest)) → next ≡ at + 16 + length (writeKey (f .smallest)) → o₄ ≡ put o₃ next (writeKey (f .largest)) → o₄ ≡ put out at (writeFile f)
-unfolding writeFile
-file-laid f out o₁ o₂ o₃ o₄ at next h e₁ e₂ e₃ e e₄ =
-    let a = bytes 8 (f .number) in
-    let b = bytes 8 (f .size) in
-    let k = writeKey (f .smallest) in
-    let la = bytes-length 8 (f .number) in
-    let lb = bytes-length 8 (f .size) in
-    let lab = length-append a b in
-    let labk = length-append (a ++ b) k in
-    let all-parts = length-append (a ++ b ++ k) (writeKey (f .largest)) in
-    let two = put-next out o₁ o₂ at (at + 8) a b (omega arith) e₁ (omega arith) e₂ in
-    let three = put-next out o₂ o₃ at (at + 16) (a ++ b) k (omega arith) two (omega arith) e₃ in
-    put-next out o₃ o₄ at next (a ++ b ++ k) (writeKey (f .largest)) (omega arith) three (omega arith) e₄
-
--- ---- counters
-
--- the six numbers of the section
-counters-is : (a b c d e : ℕ) → bytes 2 5 ++ bytes 8 a ++ bytes 8 b ++ bytes 8 c ++ bytes 8 d ++ bytes 8 e ≡ section (bytes 8) (a ∷ b ∷ c ∷ d ∷ e ∷ [])
-unfolding section join
-counters-is a b c d e = simp (append-assoc, append-nil)
-
--- they are laid down one after another
-pub counters-laid : (out o₁ o₂ o₃ o₄ o₅ o₆ : List ℕ) (at a b c d e : ℕ) → at + 42 ≤ length out → o₁ ≡ put out at (bytes 2 5) → o₂ ≡ put o₁ (at + 2) (bytes 8 a) → o₃ ≡ put o₂ (at + 10) (bytes 8 b)
-    → o₄ ≡ put o₃ (at + 18) (bytes 8 c) → o₅ ≡ put o₄ (at + 26) (bytes 8 d) → o₆ ≡ put o₅ (at + 34) (bytes 8 e) → o₆ ≡ put out at (section (bytes 8) (a ∷ b ∷ c ∷ d ∷ e ∷ []))
-counters-laid out o₁ o₂ o₃ o₄ o₅ o₆ at a b c d e h e₁ e₂ e₃ e₄ e₅ e₆ =
-    let x₁ = bytes 2 5 in
-    let x₂ = x₁ ++ bytes 8 a in
-    let x₃ = x₂ ++ bytes 8 b in
-    let x₄ = x₃ ++ bytes 8 c in
-    let x₅ = x₄ ++ bytes 8 d in
-    let n₁ : length x₁ ≡ 2 = bytes-length 2 5 in
-    let n₂ : length x₂ ≡ 10 = omega (arith, length-append x₁ (bytes 8 a), bytes-length 8 a) in
-    let n₃ : length x₃ ≡ 18 = omega (arith, length-append x₂ (bytes 8 b), bytes-length 8 b) in
-    let n₄ : length x₄ ≡ 26 = omega (arith, length-append x₃ (bytes 8 c), bytes-length 8 c) in
-    let n₅ : length x₅ ≡ 34 = omega (arith, length-append x₄ (bytes 8 d), bytes-length 8 d) in
-    let l₂ = put-next out o₁ o₂ at (at + 2) x₁ (bytes 8 a) (omega arith) e₁ (omega arith) e₂ in
-    let l₃ = put-next out o₂ o₃ at (at + 10) x₂ (bytes 8 b) (omega arith) l₂ (omega arith) e₃ in
-    let l₄ = put-next out o₃ o₄ at (at + 18) x₃ (bytes 8 c) (omega arith) l₃ (omega arith) e₄ in
-    let l₅ = put-next out o₄ o₅ at (at + 26) x₄ (bytes 8 d) (omega arith) l₄ (omega arith) e₅ in
-    put-next out o₅ o₆ at (at + 34) x₅ (bytes 8 e) (omega arith) l₅ (omega arith) e₆ ∙ ap (put out at) (counters-is a b c d e)
-
--- ---- pointers
-
--- the key of a well-formed pointer is within its room
-pub pointer-short : (p : Pointer) → wellPointer p ≡ true → p .key .len ≤ 40
-unfolding wellPointer soundPointer
-pointer-short p h =
-    let a = soundKey (p .key) in
-    let b = p .set || eqb (p .key .len) 0 in
-    sound-short (p .key) (and-left a b (and-left (a && b) (goodPointer full (pointerOf p)) h))
-
--- a byte and what is written of the key
-pub writeEntry-parts : (e : Entry) → length (writeEntry e) ≡ 1 + length (writeKey (e .key))
-writeEntry-parts e = omega (arith, writeEntry-length e, writeKey-length (e .key))
-
--- the level and the key of a pointer, one after another
-pub entry-laid : (e : Entry) (out o₁ o₂ : List ℕ) (at : ℕ) → at + length (writeEntry e) ≤ length out → o₁ ≡ put out at (bytes 1 (e .level)) → o₂ ≡ put o₁ (at + 1) (writeKey (e .key))
-    → o₂ ≡ put out at (writeEntry e)
-unfolding writeEntry
-entry-laid e out o₁ o₂ at h e₁ e₂ =
-    let one = bytes-length 1 (e .level) in
-    let both-parts = length-append (bytes 1 (e .level)) (writeKey (e .key)) in
-    put-next out o₁ o₂ at (at + 1) (bytes 1 (e .level)) (writeKey (e .key)) (omega arith) e₁ (omega arith) e₂
-
--- the count and the parts of a section, one after another
-pub section-laid : {A : Type 0} (w : A → List ℕ) (xs : List A) (out o₁ o₂ : List ℕ) (at : ℕ) → at + length (section w xs) ≤ length out → o₁ ≡ put out at (bytes 2 (length xs)) → o₂ ≡ put o₁ (at + 2) (join (map w xs))
-    → o₂ ≡ put out at (section w xs)
-unfolding section
-section-laid w xs out o₁ o₂ at h e₁ e₂ =
-    let two = bytes-length 2 (length xs) in
-    let both-parts = length-append (bytes 2 (length xs)) (join (map w xs)) in
-    put-next out o₁ o₂ at (at + 2) (bytes 2 (length xs)) (join (map w xs)) (omega arith) e₁ (omega arith) e₂
-
--- the pointers that are set, from level i on
-abbrev pub setFrom : ℕ → List Pointer → List Entry
-setFrom i ps = entries i (map pointerOf (drop i ps))
-
-module _ (ps : List Pointer) (i : ℕ) where
-  -- the level's own is one of them
-  pub set-here : i < length ps → getD ps i store.past .set ≡ true → setFrom i ps ≡ record { level = i; key = keyOf (getD ps i store.past .key) } ∷ setFrom (i + 1) ps
-  unfolding entries pointerOf
-  set-here h t = rw (rest-cons ps i store.past h, t, add-one)
-
-  -- it is none
-  pub set-later : i < length ps → getD ps i store.past .set ≡ false → setFrom i ps ≡ setFrom (i + 1) ps
-  unfolding entries pointerOf
-  set-later h t = rw (rest-cons ps i store.past h, t, add-one)
-
-  -- no level is left
-  pub set-over : length ps ≤ i → setFrom i ps ≡ []
-  unfolding entries
-  set-over h = rw (drop-of-length-le ps h)
 
 -- ---- levels
 

@@ -17,7 +17,7 @@ use Rattle.records.specs.RecordLaws.{past, Shaped}
 use Rattle.records.proofs.Shape.{all-shaped}
 use Rattle.lemmas.specs.Laying.{part-length, none-length}
 use Rattle.model.specs.SnapshotLaws.{writeFile-length}
-use Rattle.writing.specs.WritingLaws.{key-long, record-short}
+use Rattle.laying.specs.LayingLaws.{key-long, record-short}
 use Rattle.writing.proofs.files_length.Statement.{statement}
 use Rattle.writing.proofs.files_length.Tie as tie
 

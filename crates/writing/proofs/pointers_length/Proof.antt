@@ -16,7 +16,7 @@ use Rattle.store.specs.Store.{wellPointer}
 use Rattle.store.specs.StoreLaws.{past, PointerShaped}
 use Rattle.lemmas.specs.Laying.{part-length, none-length}
 use Rattle.model.specs.SnapshotLaws.{writeEntry-length}
-use Rattle.writing.specs.WritingLaws.{key-long, pointer-short, setFrom, set-here, set-later, set-over}
+use Rattle.laying.specs.LayingLaws.{key-long, pointer-short, setFrom, set-here, set-later, set-over}
 use Rattle.writing.proofs.Shape.{pointers-shaped}
 use Rattle.writing.proofs.pointers_length.Statement.{statement}
 use Rattle.writing.proofs.pointers_length.Tie as tie

@@ -1,4 +1,4 @@
--- `keys::compare` meets its contract. Assumes nothing.
+-- `comparing::compare` meets its contract. Assumes nothing.
 use mathlib.Core.Path.{_≡_, sym, _∙_}
 use mathlib.Core.Bool.{true}
 use borrow.Author.Needs.{needs}
@@ -7,11 +7,11 @@ use Rattle.model.specs.Answer.{firstOf, _⇒_}
 use Rattle.model.specs.Key.{goodKey, stands, before}
 use Rattle.model.specs.File.{full}
 use Rattle.model.specs.Calls.{compareKeys}
 use Rattle.keys.specs.Key.{keyOf}
-use Rattle.keys.specs.KeyCalls.{comparedOf}
+use Rattle.comparing.specs.Comparing.{comparedOf}
 use Rattle.octets.specs.Standing.{standing-less, standing-equal, standing-greater}
-use Rattle.keys.proofs.compare.Statement.{statement}
-use Rattle.keys.proofs.compare.Tie as tie
+use Rattle.comparing.proofs.compare.Statement.{statement}
+use Rattle.comparing.proofs.compare.Tie as tie
 
 is-good-requires : tie.Need-is-good-requires
 is-good-requires c κs = search needs

@@ -5,9 +5,9 @@ use mathlib.Core.Logic.{⊎-elim}
 use native.Mathlib.Omega.{arith}
 use borrow.Author.Needs.{needs}
 use lib.ListN.{length}
-use Rattle.writing.specs.WritingLaws.{setFrom, set-here, set-later, set-over}
-use Rattle.writing.proofs.count_pointers.Statement.{statement}
-use Rattle.writing.proofs.count_pointers.Tie as tie
+use Rattle.laying.specs.LayingLaws.{setFrom, set-here, set-later, set-over}
+use Rattle.laying.proofs.count_pointers.Statement.{statement}
+use Rattle.laying.proofs.count_pointers.Tie as tie
 
 abbrev Inv-loop : tie.InvT-loop
 Inv-loop pointers n₀ i₀ n i = (i ≤ 7) × (n ≤ i) × (n + length (setFrom i pointers) ≡ length (setFrom 0 pointers))

@@ -12,9 +12,9 @@ use Rattle.keys.specs.Key.{keyOf}
 use Rattle.keys.specs.KeyLaws.{keyOf-at}
 use Rattle.lemmas.specs.Laying.{put-next}
 use Rattle.model.specs.SnapshotLaws.{writeKey-length}
-use Rattle.writing.specs.WritingLaws.{key-long}
-use Rattle.writing.proofs.put_key.Statement.{statement}
-use Rattle.writing.proofs.put_key.Tie as tie
+use Rattle.laying.specs.LayingLaws.{key-long}
+use Rattle.laying.proofs.put_key.Statement.{statement}
+use Rattle.laying.proofs.put_key.Tie as tie
 
 abbrev Inv-loop : tie.InvT-loop
 Inv-loop out₀ at k n start i₀ out i = (i ≤ n) × (length out ≡ length out₀) × (put out (start + i) (drop i (keyOf k)) ≡ put out₀ start (keyOf k))

@@ -7,8 +7,8 @@ use lib.ListN.{length}
 use borrow.Author.Needs.{needs}
 use Rattle.lemmas.specs.Little.{bytes, bytes-turn, bytes-end}
 use Rattle.lemmas.specs.Slices.{put}
-use Rattle.writing.proofs.put_number.Statement.{statement}
-use Rattle.writing.proofs.put_number.Tie as tie
+use Rattle.laying.proofs.put_number.Statement.{statement}
+use Rattle.laying.proofs.put_number.Tie as tie
 
 abbrev Inv-loop : tie.InvT-loop
 Inv-loop out₀ at width x j₀ y₀ out j y =

@@ -1,4 +1,4 @@
--- `keys::parse_internal_key` meets its contract. Assumes nothing.
+-- `comparing::parse_internal_key` meets its contract. Assumes nothing.
 use mathlib.Core.Path.{_≡_, sym, _∙_}
 use mathlib.Core.Bool.{true}
 use borrow.Author.Needs.{needs}
@@ -7,10 +7,10 @@ use Rattle.model.specs.Answer.{firstOf, _⇒_}
 use Rattle.model.specs.Key.{goodKey, parts, user}
 use Rattle.model.specs.File.{full}
 use Rattle.model.specs.Calls.{parseKey}
 use Rattle.keys.specs.Key.{keyOf, held}
-use Rattle.keys.specs.KeyCalls.{parsed}
-use Rattle.keys.proofs.parse_internal_key.Statement.{statement}
-use Rattle.keys.proofs.parse_internal_key.Tie as tie
+use Rattle.comparing.specs.Comparing.{parsed}
+use Rattle.comparing.proofs.parse_internal_key.Statement.{statement}
+use Rattle.comparing.proofs.parse_internal_key.Tie as tie
 
 is-good-requires : tie.Need-is-good-requires
 is-good-requires c κs = search needs

@@ -7,9 +7,9 @@ use lib.ListN.{length}
 use Rattle.model.specs.Snapshot.{writeKey, writeFile}
 use Rattle.keys.specs.Key.{keyOf}
 use Rattle.records.specs.Record.{fileOf}
-use Rattle.writing.specs.WritingLaws.{record-short, writeFile-parts, file-laid}
-use Rattle.writing.proofs.put_file.Statement.{statement}
-use Rattle.writing.proofs.put_file.Tie as tie
+use Rattle.laying.specs.LayingLaws.{record-short, writeFile-parts, file-laid}
+use Rattle.laying.proofs.put_file.Statement.{statement}
+use Rattle.laying.proofs.put_file.Tie as tie
 
 -- how long what is written is
 long : (s : tie.Start) → let f = s .args .f in length (writeFile (fileOf f)) ≡ 16 + length (writeKey (keyOf (f .smallest))) + length (writeKey (keyOf (f .largest)))

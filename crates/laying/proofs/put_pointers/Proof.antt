@@ -17,9 +17,9 @@ use Rattle.store.specs.Store.{wellPointer}
 use Rattle.store.specs.StoreLaws.{past}
 use Rattle.lemmas.specs.Laying.{part-laid, part-length, none-laid, none-length}
 use Rattle.model.specs.SnapshotLaws.{section-length}
-use Rattle.writing.specs.WritingLaws.{pointer-short, writeEntry-parts, entry-laid, section-laid, setFrom, set-here, set-later, set-over}
-use Rattle.writing.proofs.put_pointers.Statement.{statement}
-use Rattle.writing.proofs.put_pointers.Tie as tie
+use Rattle.laying.specs.LayingLaws.{pointer-short, writeEntry-parts, entry-laid, section-laid, setFrom, set-here, set-later, set-over}
+use Rattle.laying.proofs.put_pointers.Statement.{statement}
+use Rattle.laying.proofs.put_pointers.Tie as tie
 
 abbrev Inv-loop : tie.InvT-loop
 Inv-loop out₀ at pointers n next₀ i₀ out next i =

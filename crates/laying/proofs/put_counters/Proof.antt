@@ -3,9 +3,9 @@ use mathlib.Core.Path.{refl}
 use borrow.Author.Needs.{needs}
 use Rattle.model.specs.Snapshot.{fiveOf}
 use Rattle.counters.specs.Counters.{countersOf}
-use Rattle.writing.specs.WritingLaws.{counters-laid}
-use Rattle.writing.proofs.put_counters.Statement.{statement}
-use Rattle.writing.proofs.put_counters.Tie as tie
+use Rattle.laying.specs.LayingLaws.{counters-laid}
+use Rattle.laying.proofs.put_counters.Statement.{statement}
+use Rattle.laying.proofs.put_counters.Tie as tie
 
 put-number-requires : tie.Need-put-number-requires
 put-number-requires c κs = search needs

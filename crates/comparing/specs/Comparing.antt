@@ -3,10 +3,10 @@ use mathlib.Core.List.{[]}
 use Rattle.model.specs.Answer.{Answer, gives, refused}
 use Rattle.model.specs.Key as model
 use Rattle.answers.specs.declared.Outcome.the-variants as outcome
 use Rattle.keys.specs.Key.{userRecord}
-use Rattle.keys.specs.declared.Compared.{Compared}
-use Rattle.keys.specs.declared.Compared.the-variants.{Before, Same, After, Refused}
-use Rattle.keys.specs.declared.Parsed.{Parsed}
+use Rattle.comparing.specs.declared.Compared.{Compared}
+use Rattle.comparing.specs.declared.Compared.the-variants.{Before, Same, After, Refused}
+use Rattle.comparing.specs.declared.Parsed.{Parsed}
 
 -- how the keys stand, or the refusal's number
 unfoldable pub comparedOf : Compared → Answer model.Ordering
