@@ -17,7 +17,6 @@ use Rattle.edits.specs.Edit.{additionOf}
 use Rattle.entries.specs.Entries.{passed}
 use Rattle.edits.specs.declared.Deletion.{Deletion}
 use Rattle.edits.specs.declared.Addition.{Addition}
-use Rattle.edits.specs.declared.Edit.{Edit}
 use Rattle.stayers.specs.Stayers.{staysBy, stayersBy, stayersFrom, numberAt, placesOf, keptOf}
 use Rattle.stayers.specs.StayLaws.{staysIn}
 use Rattle.arrangement.specs.Arrangement.{recordBefore, keyBefore, sortedLevels, arrangedOf}
