@@ -15,7 +15,7 @@ use Rattle.model.specs.Pick.{upTo, manualInputs, Cause, grows, grownFirst, gran
 use Rattle.model.specs.Range.{Range, overlapping, highKey, rangeOf}
 use Rattle.store.specs.declared.Store.{Store}
 use Rattle.store.specs.Store.{stateOf, wellStore}
-use Rattle.ranges.specs.FoundLaws.{all-taken}
+use Rattle.gathering.specs.FoundLaws.{all-taken}
 use Rattle.picks.specs.Picks.{takenFrom, limitOf}
 
 -- ---- growth

@@ -23,12 +23,12 @@ use Rattle.store.specs.declared.Pointer.{Pointer}
 use Rattle.store.specs.declared.Store.{Store}
 use Rattle.store.specs.Store.{pointerOf, pointerRecord, stateOf, storeOf, wellStore}
 use Rattle.store.specs.StoreLaws as store
-use Rattle.ranges.specs.declared.Places.{Places}
-use Rattle.ranges.specs.Ranges.{inputsOf, Held, listedAt, placesOf, joinedPlaces, Placed, fileAt, filesAt, startAt, endAt}
-use Rattle.ranges.specs.PlacesLaws.{listed-of, placed-of, listed-count, joined-count, joined-listed, files-append, laying-start, laying-cons, laying-nil}
-use Rattle.ranges.specs.CallsLaws.{level-ends}
-use Rattle.ranges.specs.Found.{Summed, Known}
-use Rattle.ranges.specs.FoundLaws.{summed-one}
+use Rattle.gathering.specs.declared.Places.{Places}
+use Rattle.gathering.specs.Places.{inputsOf, Held, listedAt, placesOf, joinedPlaces, Placed, fileAt, filesAt, startAt, endAt}
+use Rattle.gathering.specs.PlacesLaws.{listed-of, placed-of, listed-count, joined-count, joined-listed, files-append, laying-start, laying-cons, laying-nil}
+use Rattle.gathering.specs.CallsLaws.{level-ends}
+use Rattle.gathering.specs.Found.{Summed, Known}
+use Rattle.gathering.specs.FoundLaws.{summed-one}
 use Rattle.picks.specs.Picks.{oneFound}
 
 -- ---- inputs

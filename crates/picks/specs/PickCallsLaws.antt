@@ -24,7 +24,7 @@ use Rattle.lists.specs.List.{listOf}
 use Rattle.store.specs.declared.Store.{Store}
 use Rattle.store.specs.Store.{stateOf, wellStore, onStore}
 use Rattle.store.specs.StoreLaws as store
-use Rattle.ranges.specs.CallsLaws.{asked-ill, asked-beyond, asked-key, asked-on}
+use Rattle.gathering.specs.CallsLaws.{asked-ill, asked-beyond, asked-key, asked-on}
 use Rattle.picks.specs.Picks.{startIn, takenFrom}
 use Rattle.picks.specs.ChoiceLaws.{none-left, some-left}
 use Rattle.picks.specs.StartLaws.{start-nothing}

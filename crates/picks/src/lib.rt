@@ -11,17 +11,18 @@ ghost use Rattle.model.specs.Range.{overlapping};
 ghost use Rattle.keys.specs.Key.{keyOf};
 ghost use Rattle.store.specs.Store.{stateOf, storeOf, wellStore, onStore};
 ghost use Rattle.picked.specs.Picked.{causeOf, pickOf};
-ghost use Rattle.ranges.specs.Ranges.{spanOf, inputsOf, Held};
-ghost use Rattle.ranges.specs.Found.{Known};
+ghost use Rattle.ranges.specs.Ranges.{spanOf};
+ghost use Rattle.gathering.specs.Places.{inputsOf, Held};
+ghost use Rattle.gathering.specs.Found.{Known};
 ghost use Rattle.picks.specs.Picks.{oneFound, limitOf, placeOf, startIn, takenFrom};
 use answers::Outcome;
 use answers::Refusal;
+use gathering::Found;
+use gathering::Places;
 use keys::Key;
 use picked::Cause;
 use picked::Pick;
 use picked::Picked;
-use ranges::Found;
-use ranges::Places;
 use ranges::Span;
 use records::Ends;
 use records::FileRecord;
@@ -130,8 +131,8 @@ fn size_inputs(s: Store, level: usize, one: Found) -> Found
     ensures { λ r. ⌜ Known s level r × (inputsOf s (r .places) ≡ takenFrom level (version.level (stateOf s) level) (inputsOf s (one .places))) ⌝ }
 {
     if level == 0 {
-        let span = ranges::range_of(one);
-        return ranges::found_in(s, 0, span, Found::ALL);
+        let span = gathering::range_of(one);
+        return gathering::found_in(s, 0, span, Found::ALL);
     }
     one
 }
@@ -155,16 +156,16 @@ fn grown_first(s: Store, maximum: u64, level: usize, first: Found, second: Found
     if second.places.count == 0 {
         return first;
     }
-    let both = ranges::joint_range(first, second);
-    let grown = ranges::found_in(s, level, both, Found::ALL);
+    let both = gathering::joint_range(first, second);
+    let grown = gathering::found_in(s, level, both, Found::ALL);
     if grown.places.count <= first.places.count {
         return first;
     }
     if GROWTH_TIMES * maximum <= grown.bytes + second.bytes {
         return first;
     }
-    let own = ranges::range_of(grown);
-    let again = ranges::found_in(s, level + 1, own, Found::ALL);
+    let own = gathering::range_of(grown);
+    let again = gathering::found_in(s, level + 1, own, Found::ALL);
     if again.places.count != second.places.count {
         return first;
     }
@@ -182,7 +183,7 @@ fn grandparents(s: Store, level: usize, span: Span) -> Places
             count: 0,
         };
     }
-    let found = ranges::found_in(s, level + 2, span, Found::ALL);
+    let found = gathering::found_in(s, level + 2, span, Found::ALL);
     found.places
 }
 
@@ -208,16 +209,16 @@ fn complete(s: Store, maximum: u64, cause: Cause, level: usize, first: Found) ->
     requires { ⌜ (wellStore s ≡ true) × (level < 6) × (maximum ≤ 4294967296) × Known s level first ⌝ }
     ensures { λ r. ⌜ r ≡ pickOf s (gives (model.complete full (stateOf s) maximum (causeOf cause) level (inputsOf s (first .places)))) ⌝ }
 {
-    let span = ranges::range_of(first);
-    let second = ranges::found_in(s, level + 1, span, Found::ALL);
+    let span = gathering::range_of(first);
+    let second = gathering::found_in(s, level + 1, span, Found::ALL);
     let chosen = grown_first(s, maximum, level, first, second);
-    let both = ranges::joint_range(chosen, second);
+    let both = gathering::joint_range(chosen, second);
     let grand = grandparents(s, level, both);
     let a = chosen.places;
     let b = second.places;
-    let inputs = ranges::joined(a, b);
-    let all = ranges::joined(inputs, grand);
-    let list = ranges::list_at(s, all);
+    let inputs = gathering::joined(a, b);
+    let all = gathering::joined(inputs, grand);
+    let list = gathering::list_at(s, all);
     let laid = list.files;
     let ends = chosen.ends;
     let high = ends.high;
@@ -290,7 +291,7 @@ pub fn compact_known(s: Store, maximum: u64, level: usize, start: Key, stop: Key
         return refuse(s, Refusal::LAST_LEVEL);
     }
     let span = ranges::between(start, stop);
-    let first = ranges::found_in(s, level, span, limit_of(level, maximum));
+    let first = gathering::found_in(s, level, span, limit_of(level, maximum));
     if first.places.count == 0 {
         return refuse(s, Refusal::NOTHING);
     }

@@ -18,11 +18,12 @@ use Rattle.store.specs.Store.{stateOf, storeOf}
 use Rattle.store.proofs.Shape as store-shape
 use Rattle.picked.specs.Picked.{causeOf, threeLists, pickedRecord, pickOf}
 use Rattle.picked.specs.PickedLaws.{cause-is}
-use Rattle.ranges.specs.declared.Places.{Places}
-use Rattle.ranges.specs.Ranges.{spanOf, listedAt, Placed, inputsOf}
-use Rattle.ranges.specs.PlacesLaws.{placed-more, joined-count}
-use Rattle.ranges.specs.CallsLaws.{files-room, places-sound}
-use Rattle.ranges.specs.FoundLaws.{held-count, all-taken, known-range, known-joint}
+use Rattle.ranges.specs.Ranges.{spanOf}
+use Rattle.gathering.specs.declared.Places.{Places}
+use Rattle.gathering.specs.Places.{listedAt, Placed, inputsOf}
+use Rattle.gathering.specs.PlacesLaws.{placed-more, joined-count}
+use Rattle.gathering.specs.CallsLaws.{files-room, places-sound}
+use Rattle.gathering.specs.FoundLaws.{held-count, all-taken, known-range, known-joint}
 use Rattle.picks.specs.HeldLaws.{inputs-joined, joined-placed, three-counts}
 use Rattle.picks.specs.ChoiceLaws.{complete-by}
 use Rattle.picks.specs.PickCallsLaws.{three-laid}

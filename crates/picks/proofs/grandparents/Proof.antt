@@ -3,8 +3,9 @@ use mathlib.Core.Path.{refl, sym, _∙_}
 use Prim.Native.Nat.{_+_}
 use native.Mathlib.Omega.{arith}
 use Rattle.store.specs.Store.{stateOf}
-use Rattle.ranges.specs.Ranges.{spanOf, inputsOf}
-use Rattle.ranges.specs.FoundLaws.{all-taken}
+use Rattle.ranges.specs.Ranges.{spanOf}
+use Rattle.gathering.specs.Places.{inputsOf}
+use Rattle.gathering.specs.FoundLaws.{all-taken}
 use Rattle.picks.specs.HeldLaws.{none-held, none-inputs}
 use Rattle.picks.specs.ChoiceLaws.{no-grand, some-grand}
 use borrow.Author.Needs.{needs}

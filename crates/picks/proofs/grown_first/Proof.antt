@@ -9,8 +9,9 @@ use Rattle.model.specs.File.{level, total}
 use Rattle.model.specs.Range.{overlapping, rangeOf}
 use Rattle.store.specs.Store.{stateOf}
 use Rattle.store.proofs.Shape as store-shape
-use Rattle.ranges.specs.Ranges.{spanOf, inputsOf}
-use Rattle.ranges.specs.FoundLaws.{held-count, all-taken, known-range, known-joint}
+use Rattle.ranges.specs.Ranges.{spanOf}
+use Rattle.gathering.specs.Places.{inputsOf}
+use Rattle.gathering.specs.FoundLaws.{held-count, all-taken, known-range, known-joint}
 use Rattle.picks.specs.HeldLaws.{held-bytes}
 use Rattle.picks.specs.ChoiceLaws.{grown, again, kept-alone, kept-few, kept-large, kept-other, grown-taken}
 use borrow.Author.Needs.{needs}

@@ -1,4 +1,4 @@
--- `ranges::joined` meets its contract. The loop's invariant: the places that are left laid down from k on give all of them. Assumes nothing.
+-- `gathering::joined` meets its contract. The loop's invariant: the places that are left laid down from k on give all of them. Assumes nothing.
 use Prim.Native.Nat.{_+_, _-_, _≤_}
 use mathlib.Core.Path.{_≡_, refl, sym, ap, _∙_}
 use mathlib.Core.List.{[]}
@@ -7,10 +7,10 @@ use borrow.Author.Needs.{needs}
 use lib.ListN.{length, getD, length-set}
 use lib.Seq.{slice}
 use Rattle.lemmas.specs.Slices.{run-cons, run-past}
-use Rattle.ranges.specs.Ranges.{listedAt, laying, joinedPlaces}
-use Rattle.ranges.specs.PlacesLaws.{laying-cons, laying-nil}
-use Rattle.ranges.proofs.joined.Statement.{statement}
-use Rattle.ranges.proofs.joined.Tie as tie
+use Rattle.gathering.specs.Places.{listedAt, laying, joinedPlaces}
+use Rattle.gathering.specs.PlacesLaws.{laying-cons, laying-nil}
+use Rattle.gathering.proofs.joined.Statement.{statement}
+use Rattle.gathering.proofs.joined.Tie as tie
 
 abbrev Inv-loop : tie.InvT-loop
 Inv-loop n b at₀ k₀ j₀ at k j = (j ≤ n) × (k ≡ k₀ + j) × (length at ≡ 256) × (laying at k (slice j n b) ≡ laying at₀ k₀ (slice 0 n b))

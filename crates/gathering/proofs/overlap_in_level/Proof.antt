@@ -1,4 +1,4 @@
--- `ranges::overlap_in_level` meets its contract. Assumes nothing.
+-- `gathering::overlap_in_level` meets its contract. Assumes nothing.
 use Prim.Native.Nat.{ℕ, _+_, _≤_}
 use mathlib.Core.Path.{_≡_, sym, ap, _∙_}
 use mathlib.Core.Bool.{true}
@@ -17,11 +17,12 @@ use Rattle.keys.specs.Key.{userOf}
 use Rattle.records.specs.Run.{run}
 use Rattle.store.specs.Store.{wellStore, onStore}
 use Rattle.store.proofs.Shape as store-shape
-use Rattle.ranges.specs.Ranges.{spanOf, startAt, endAt}
-use Rattle.ranges.specs.CallsLaws.{told-ill, told-beyond, told-key, told-done, wrong-left, wrong-right, level-ends, files-room}
+use Rattle.ranges.specs.Ranges.{spanOf}
+use Rattle.gathering.specs.Places.{startAt, endAt}
+use Rattle.gathering.specs.CallsLaws.{told-ill, told-beyond, told-key, told-done, wrong-left, wrong-right, level-ends, files-room}
 use borrow.Author.Needs.{needs}
-use Rattle.ranges.proofs.overlap_in_level.Statement.{statement}
-use Rattle.ranges.proofs.overlap_in_level.Tie as tie
+use Rattle.gathering.proofs.overlap_in_level.Statement.{statement}
+use Rattle.gathering.proofs.overlap_in_level.Tie as tie
 
 is-well-formed-requires : tie.Need-is-well-formed-requires
 is-well-formed-requires c κs = search needs

@@ -1,5 +1,5 @@
 -- Laws of files found: the ends of two lists joined, and a search over a run in order of smallest keys, turn by turn. Assumes nothing.
-use Prim.Native.Nat.{ℕ, zero, suc, _+_, _-_, _^_, _≤_, _<_}
+use Prim.Native.Nat.{ℕ, zero, suc, _+_, _^_, _≤_, _<_}
 use mathlib.Core.Path.{_≡_, refl, sym, ap, subst, _∙_}
 use mathlib.Core.Bool.{Bool, true, false, not, cond, _&&_, _||_}
 use mathlib.Core.Logic.{⊎-elim}
@@ -24,6 +24,7 @@ use Rattle.model.specs.PickedLaws.{GoodLevel, goodLevel-says, part-good}
 use Rattle.model.specs.ScoreLaws.{total-most}
 use Rattle.model.specs.Range.{Range, between, overlaps, widen, overlapping, lowKey, highKey, rangeOf}
 use Rattle.model.specs.RangeLaws.{smallestOf, largestOf, low-fold, high-fold}
+use Rattle.keys.specs.declared.Key as keys
 use Rattle.keys.specs.Key.{keyOf}
 use Rattle.records.specs.Record.{fileOf}
 use Rattle.records.specs.RecordLaws.{past, run-turn, run-ended, total-turn, total-ended}
@@ -33,14 +34,14 @@ use Rattle.records.specs.declared.FileRecord.{FileRecord}
 use Rattle.store.specs.declared.Store.{Store}
 use Rattle.store.specs.Store.{stateOf, wellStore}
 use Rattle.store.specs.StoreLaws as store
-use Rattle.ranges.specs.declared.Found.{Found}
-use Rattle.keys.specs.declared.Key as keys
-use Rattle.ranges.specs.declared.Places.{Places}
-use Rattle.ranges.specs.Ranges.{spanOf, spanRecord, listedAt, fileAt, filesAt, startAt, endAt, inputsOf, Held}
+use Rattle.ranges.specs.Ranges.{spanOf, spanRecord}
 use Rattle.ranges.specs.RangesLaws.{span-between}
-use Rattle.ranges.specs.CallsLaws.{level-run, level-ends, files-room}
-use Rattle.ranges.specs.PlacesLaws.{files-append, files-length}
-use Rattle.ranges.specs.Found.{lowWith, highWith, rising, Ordered, Summed, Gathered, Gathering, restTo, Known, rangeFound, jointFound}
+use Rattle.gathering.specs.declared.Found.{Found}
+use Rattle.gathering.specs.declared.Places.{Places}
+use Rattle.gathering.specs.Places.{listedAt, fileAt, filesAt, startAt, endAt, inputsOf, Held}
+use Rattle.gathering.specs.CallsLaws.{level-run, level-ends, files-room}
+use Rattle.gathering.specs.PlacesLaws.{files-append, files-length}
+use Rattle.gathering.specs.Found.{lowWith, highWith, rising, Ordered, Summed, Gathered, Gathering, restTo, Known, rangeFound, jointFound}
 
 -- ---- the first of the least of three, whichever two are looked at first
 module _ {A : Type 0} (lt : A → A → Bool) (o : StrictWeak lt) where

@@ -1,14 +1,14 @@
--- `ranges::joined_ends` meets its contract. Assumes nothing.
+-- `gathering::joined_ends` meets its contract. Assumes nothing.
 use mathlib.Core.Path.{_≡_, refl, sym, ap, _∙_}
 use mathlib.Core.Bool.{true, false, cond}
 use mathlib.Core.Logic.{⊎-elim}
 use Rattle.model.specs.Key.{before}
 use Rattle.keys.specs.Key.{keyOf}
-use Rattle.ranges.specs.Found.{lowWith, highWith}
-use Rattle.ranges.specs.FoundLaws.{low-only, high-only, low-both, high-both}
+use Rattle.gathering.specs.Found.{lowWith, highWith}
+use Rattle.gathering.specs.FoundLaws.{low-only, high-only, low-both, high-both}
 use borrow.Author.Needs.{needs}
-use Rattle.ranges.proofs.joined_ends.Statement.{statement}
-use Rattle.ranges.proofs.joined_ends.Tie as tie
+use Rattle.gathering.proofs.joined_ends.Statement.{statement}
+use Rattle.gathering.proofs.joined_ends.Tie as tie
 
 returns : tie.Need-returns
 unfolding lowWith highWith

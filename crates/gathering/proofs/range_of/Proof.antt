@@ -1,8 +1,8 @@
--- `ranges::range_of` meets its contract. Assumes nothing.
+-- `gathering::range_of` meets its contract. Assumes nothing.
 use borrow.Author.Needs.{needs}
-use Rattle.ranges.specs.Found.{rangeFound}
-use Rattle.ranges.proofs.range_of.Statement.{statement}
-use Rattle.ranges.proofs.range_of.Tie as tie
+use Rattle.gathering.specs.Found.{rangeFound}
+use Rattle.gathering.proofs.range_of.Statement.{statement}
+use Rattle.gathering.proofs.range_of.Tie as tie
 
 between-requires : tie.Need-between-requires
 between-requires c κs = search needs

@@ -15,9 +15,10 @@ use Rattle.records.specs.Run.{run}
 use Rattle.records.specs.declared.Ends.{Ends}
 use Rattle.records.specs.declared.FileRecord.{FileRecord}
 use Rattle.store.specs.declared.Store.{Store}
-use Rattle.ranges.specs.declared.Found.{Found}
 use Rattle.ranges.specs.declared.Span.{Span}
-use Rattle.ranges.specs.Ranges.{spanRecord, listedAt, filesAt, inputsOf, Held}
+use Rattle.ranges.specs.Ranges.{spanRecord}
+use Rattle.gathering.specs.declared.Found.{Found}
+use Rattle.gathering.specs.Places.{listedAt, filesAt, inputsOf, Held}
 
 -- the smallest key of n files and of m files after them, by those of each
 unfoldable pub lowWith : ℕ → Key → ℕ → Key → Key

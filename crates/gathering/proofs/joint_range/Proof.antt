@@ -1,9 +1,9 @@
--- `ranges::joint_range` meets its contract. Assumes nothing.
+-- `gathering::joint_range` meets its contract. Assumes nothing.
 use mathlib.Core.Path.{_∙_}
 use borrow.Author.Needs.{needs}
-use Rattle.ranges.specs.FoundLaws.{joint-is}
-use Rattle.ranges.proofs.joint_range.Statement.{statement}
-use Rattle.ranges.proofs.joint_range.Tie as tie
+use Rattle.gathering.specs.FoundLaws.{joint-is}
+use Rattle.gathering.proofs.joint_range.Statement.{statement}
+use Rattle.gathering.proofs.joint_range.Tie as tie
 
 joined-ends-requires : tie.Need-joined-ends-requires
 joined-ends-requires c κs = search needs

@@ -1,4 +1,4 @@
--- `ranges::found_in` meets its contract. Assumes nothing.
+-- `gathering::found_in` meets its contract. Assumes nothing.
 use Prim.Native.Nat.{ℕ, _+_, _≤_}
 use mathlib.Core.Path.{_≡_, sym, ap, subst, _∙_}
 use mathlib.Core.Logic.{⊎-elim}
@@ -12,13 +12,14 @@ use Rattle.model.specs.Range.{Range, overlaps, overlapping, widen}
 use Rattle.records.specs.Run.{run}
 use Rattle.store.specs.Store.{stateOf}
 use Rattle.store.proofs.Shape as store-shape
-use Rattle.ranges.specs.Ranges.{spanOf, inputsOf}
-use Rattle.ranges.specs.Found.{Gathered}
-use Rattle.ranges.specs.FoundLaws.{level-ordered, level-known, overlapping-first, overlapping-deeper}
-use Rattle.ranges.specs.CallsLaws.{level-run, level-ends, files-room}
+use Rattle.ranges.specs.Ranges.{spanOf}
+use Rattle.gathering.specs.Places.{inputsOf}
+use Rattle.gathering.specs.Found.{Gathered}
+use Rattle.gathering.specs.FoundLaws.{level-ordered, level-known, overlapping-first, overlapping-deeper}
+use Rattle.gathering.specs.CallsLaws.{level-run, level-ends, files-room}
 use borrow.Author.Needs.{needs}
-use Rattle.ranges.proofs.found_in.Statement.{statement}
-use Rattle.ranges.proofs.found_in.Tie as tie
+use Rattle.gathering.proofs.found_in.Statement.{statement}
+use Rattle.gathering.proofs.found_in.Tie as tie
 
 start-of-requires : tie.Need-start-of-requires
 start-of-requires c κs =

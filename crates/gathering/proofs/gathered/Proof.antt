@@ -1,4 +1,4 @@
--- `ranges::gathered` meets its contract. The loop's invariant: the files taken and those that are taken of the rest are all that are taken. Assumes nothing.
+-- `gathering::gathered` meets its contract. The loop's invariant: the files taken and those that are taken of the rest are all that are taken. Assumes nothing.
 use Prim.Native.Nat.{_-_, _≤_, _<_}
 use mathlib.Core.Path.{_≡_, sym, ap, _∙_}
 use mathlib.Core.List.{[]}
@@ -9,11 +9,12 @@ use Rattle.keys.specs.Key.{keyOf, userOf}
 use Rattle.keys.specs.KeyLaws.{keyOf-record}
 use Rattle.records.specs.Record.{fileOf}
 use Rattle.records.specs.RecordLaws.{past, total-turn}
-use Rattle.ranges.specs.Ranges.{spanOf, listedAt}
-use Rattle.ranges.specs.Found.{Gathering}
-use Rattle.ranges.specs.FoundLaws.{gather-start, gather-passed, gather-taken, gather-stops, gather-end, goes-on, over-taken, over-passed}
-use Rattle.ranges.proofs.gathered.Statement.{statement}
-use Rattle.ranges.proofs.gathered.Tie as tie
+use Rattle.ranges.specs.Ranges.{spanOf}
+use Rattle.gathering.specs.Places.{listedAt}
+use Rattle.gathering.specs.Found.{Gathering}
+use Rattle.gathering.specs.FoundLaws.{gather-start, gather-passed, gather-taken, gather-stops, gather-end, goes-on, over-taken, over-passed}
+use Rattle.gathering.proofs.gathered.Statement.{statement}
+use Rattle.gathering.proofs.gathered.Tie as tie
 
 abbrev Inv-loop : tie.InvT-loop
 Inv-loop from to most files start stop at₀ ends₀ n₀ bytes₀ i₀ at ends n bytes i = Gathering files from to most (record { start = userOf start; stop = userOf stop }) at ends n bytes i

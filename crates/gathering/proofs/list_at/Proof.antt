@@ -1,4 +1,4 @@
--- `ranges::list_at` meets its contract. The loop's invariant: the records at the places from k on laid down from k on give the whole array. Assumes nothing.
+-- `gathering::list_at` meets its contract. The loop's invariant: the records at the places from k on laid down from k on give the whole array. Assumes nothing.
 use Prim.Native.Nat.{_+_, _-_, _≤_, _<_}
 use mathlib.Core.Path.{_≡_, sym, ap, _∙_}
 use mathlib.Core.List.{List, [], map}
@@ -13,10 +13,10 @@ use Rattle.records.specs.RecordLaws.{past, AllShaped}
 use Rattle.records.specs.declared.FileRecord.{FileRecord}
 use Rattle.store.proofs.Shape as store-shape
 use Rattle.lists.specs.List.{listOf}
-use Rattle.ranges.specs.Ranges.{listedAt, recordsAt, filesAt, inputsOf}
-use Rattle.ranges.specs.PlacesLaws.{files-length, placed-at, records-turn, records-ended, records-kept}
-use Rattle.ranges.proofs.list_at.Statement.{statement}
-use Rattle.ranges.proofs.list_at.Tie as tie
+use Rattle.gathering.specs.Places.{listedAt, recordsAt, filesAt, inputsOf}
+use Rattle.gathering.specs.PlacesLaws.{files-length, placed-at, records-turn, records-ended, records-kept}
+use Rattle.gathering.proofs.list_at.Statement.{statement}
+use Rattle.gathering.proofs.list_at.Tie as tie
 
 abbrev Inv-loop : tie.InvT-loop
 Inv-loop s at count out₀ k₀ out k = (k ≤ count) × (length out ≡ 256) × (put out k (recordsAt (s .files) (slice k count at)) ≡ put (vacant 256) 0 (recordsAt (s .files) (slice 0 count at)))

@@ -25,7 +25,7 @@ use Rattle.levels.specs.LevelsLaws as levels
 use Rattle.store.specs.declared.Store.{Store}
 use Rattle.store.specs.Store.{stateOf, wellStore, onStore}
 use Rattle.store.specs.StoreLaws as store
-use Rattle.ranges.specs.Ranges.{recordsAt, startAt, endAt}
+use Rattle.gathering.specs.Places.{recordsAt, startAt, endAt}
 
 -- ---- a call that asks for a well-formed state, a level and keys before anything else
 module _ {A : Type 0} (s : Store) (n : ℕ) (keys : Bool) (rs : State → List Refusal) (a : State → A) where

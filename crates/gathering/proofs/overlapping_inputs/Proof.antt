@@ -1,4 +1,4 @@
--- `ranges::overlapping_inputs` meets its contract. Assumes nothing.
+-- `gathering::overlapping_inputs` meets its contract. Assumes nothing.
 use mathlib.Core.Path.{_≡_, sym, ap, _∙_}
 use mathlib.Core.Bool.{true}
 use native.Mathlib.Omega.{arith}
@@ -14,14 +14,15 @@ use Rattle.lists.specs.declared.FileList.{FileList}
 use Rattle.lists.specs.List.{listOf, listed}
 use Rattle.store.specs.Store.{stateOf, wellStore}
 use Rattle.store.proofs.Shape as store-shape
-use Rattle.ranges.specs.Ranges.{spanOf, listedAt, inputsOf}
+use Rattle.ranges.specs.Ranges.{spanOf}
 use Rattle.ranges.specs.RangesLaws.{span-between}
-use Rattle.ranges.specs.PlacesLaws.{placed-more}
-use Rattle.ranges.specs.FoundLaws.{all-taken}
-use Rattle.ranges.specs.CallsLaws.{inputs-ill, inputs-beyond, inputs-key, inputs-done, wrong-left, wrong-right, files-room, places-sound}
+use Rattle.gathering.specs.Places.{listedAt, inputsOf}
+use Rattle.gathering.specs.PlacesLaws.{placed-more}
+use Rattle.gathering.specs.FoundLaws.{all-taken}
+use Rattle.gathering.specs.CallsLaws.{inputs-ill, inputs-beyond, inputs-key, inputs-done, wrong-left, wrong-right, files-room, places-sound}
 use borrow.Author.Needs.{needs}
-use Rattle.ranges.proofs.overlapping_inputs.Statement.{statement}
-use Rattle.ranges.proofs.overlapping_inputs.Tie as tie
+use Rattle.gathering.proofs.overlapping_inputs.Statement.{statement}
+use Rattle.gathering.proofs.overlapping_inputs.Tie as tie
 
 is-well-formed-requires : tie.Need-is-well-formed-requires
 is-well-formed-requires c κs = search needs

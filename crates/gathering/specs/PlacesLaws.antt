@@ -1,5 +1,5 @@
 -- Laws of places: those of a run whose files pass, the files that stand there, and how they are laid down one after another. Assumes nothing.
-use Prim.Native.Nat.{ℕ, suc, _+_, _-_, _≤_, _<_}
+use Prim.Native.Nat.{ℕ, suc, _+_, _≤_, _<_}
 use mathlib.Core.Path.{_≡_, refl, ap, subst, _∙_}
 use mathlib.Core.Bool.{true}
 use mathlib.Core.List.{List, [], _∷_, _++_, map, map-map, map-append, List·Memᴰ as In, List·Memᴰ·head as here, List·Memᴰ·tail as there}
@@ -14,8 +14,8 @@ use Rattle.lemmas.specs.Slices.{put, put-cons, put-nil, put-front, length-put, 
 use Rattle.records.specs.Record.{fileOf, recordOf, soundRecord}
 use Rattle.records.specs.RecordLaws.{past, Shaped, AllShaped, sound-list}
 use Rattle.records.specs.declared.FileRecord.{FileRecord}
-use Rattle.ranges.specs.declared.Places.{Places}
-use Rattle.ranges.specs.Ranges.{listedAt, placesOf, laying, joinedPlaces, Placed, recordsAt, fileAt, filesAt}
+use Rattle.gathering.specs.declared.Places.{Places}
+use Rattle.gathering.specs.Places.{listedAt, placesOf, laying, joinedPlaces, Placed, recordsAt, fileAt, filesAt}
 
 -- ---- places by value
 -- what is listed
