@@ -1,4 +1,4 @@
--- The inputs of a pick as places in a store's array, and the file to start with. Assumes nothing.
+-- The first inputs of a pick as places in a store's array, and the file to start with. Assumes nothing.
 use Prim.Native.Nat.{ℕ, zero, suc, _-_, min}
 use mathlib.Core.List.{List, [], _∷_}
 use mathlib.Core.Option.{Option, none, some, orElse}

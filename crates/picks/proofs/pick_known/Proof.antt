@@ -23,7 +23,7 @@ use Rattle.gathering.specs.declared.Found.{Found}
 use Rattle.gathering.specs.Found.{Known}
 use Rattle.gathering.specs.CallsLaws.{level-ends, files-room}
 use Rattle.picks.specs.Picks.{oneFound, placeOf, startIn, takenFrom}
-use Rattle.picks.specs.HeldLaws.{one-known, one-inputs}
+use Rattle.picks.specs.OneLaws.{one-known, one-inputs}
 use Rattle.picks.specs.ChoiceLaws.{maximum-most}
 use Rattle.picks.specs.StartLaws.{start-found, start-within}
 use Rattle.picks.specs.PickCallsLaws.{size-bad, size-idle, size-done, size-from, nothing-due, found-due}

@@ -1,4 +1,4 @@
--- `picks::grown_first` meets its contract. Assumes nothing.
+-- `completing::grown_first` meets its contract. Assumes nothing.
 use Prim.Native.Nat.{ℕ, _+_, _*_, _^_, _≤_}
 use mathlib.Core.Path.{_≡_, sym, ap, _∙_}
 use mathlib.Core.List.{_++_}
@@ -12,11 +12,11 @@ use Rattle.store.proofs.Shape as store-shape
 use Rattle.ranges.specs.Ranges.{spanOf}
 use Rattle.gathering.specs.Places.{inputsOf}
 use Rattle.gathering.specs.FoundLaws.{held-count, all-taken, known-range, known-joint}
-use Rattle.picks.specs.HeldLaws.{held-bytes}
-use Rattle.picks.specs.ChoiceLaws.{grown, again, kept-alone, kept-few, kept-large, kept-other, grown-taken}
+use Rattle.completing.specs.HeldLaws.{held-bytes}
+use Rattle.completing.specs.CompleteLaws.{grown, again, kept-alone, kept-few, kept-large, kept-other, grown-taken}
 use borrow.Author.Needs.{needs}
-use Rattle.picks.proofs.grown_first.Statement.{statement}
-use Rattle.picks.proofs.grown_first.Tie as tie
+use Rattle.completing.proofs.grown_first.Statement.{statement}
+use Rattle.completing.proofs.grown_first.Tie as tie
 
 -- how many first and second inputs there are
 firsts : (c : tie.Start) → let a = c .args in length (inputsOf (a .s) (a .first .places)) ≡ a .first .places .count

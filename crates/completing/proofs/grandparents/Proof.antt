@@ -1,4 +1,4 @@
--- `picks::grandparents` meets its contract. Assumes nothing.
+-- `completing::grandparents` meets its contract. Assumes nothing.
 use mathlib.Core.Path.{refl, sym, _∙_}
 use Prim.Native.Nat.{_+_}
 use native.Mathlib.Omega.{arith}
@@ -6,11 +6,11 @@ use Rattle.store.specs.Store.{stateOf}
 use Rattle.ranges.specs.Ranges.{spanOf}
 use Rattle.gathering.specs.Places.{inputsOf}
 use Rattle.gathering.specs.FoundLaws.{all-taken}
-use Rattle.picks.specs.HeldLaws.{none-held, none-inputs}
-use Rattle.picks.specs.ChoiceLaws.{no-grand, some-grand}
+use Rattle.completing.specs.HeldLaws.{none-held, none-inputs}
+use Rattle.completing.specs.CompleteLaws.{no-grand, some-grand}
 use borrow.Author.Needs.{needs}
-use Rattle.picks.proofs.grandparents.Statement.{statement}
-use Rattle.picks.proofs.grandparents.Tie as tie
+use Rattle.completing.proofs.grandparents.Statement.{statement}
+use Rattle.completing.proofs.grandparents.Tie as tie
 
 add-if1 : tie.Need-add-if1
 add-if1 c = search needs

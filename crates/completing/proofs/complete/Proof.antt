@@ -1,4 +1,4 @@
--- `picks::complete` meets its contract. Assumes nothing.
+-- `completing::complete` meets its contract. Assumes nothing.
 use Prim.Native.Nat.{ℕ, _+_, _≤_}
 use mathlib.Core.Path.{_≡_, sym, ap, _∙_}
 use mathlib.Core.List.{List, [], _∷_, _++_}
@@ -24,12 +24,11 @@ use Rattle.gathering.specs.Places.{listedAt, Placed, inputsOf}
 use Rattle.gathering.specs.PlacesLaws.{placed-more, joined-count}
 use Rattle.gathering.specs.CallsLaws.{files-room, places-sound}
 use Rattle.gathering.specs.FoundLaws.{held-count, all-taken, known-range, known-joint}
-use Rattle.picks.specs.HeldLaws.{inputs-joined, joined-placed, three-counts}
-use Rattle.picks.specs.ChoiceLaws.{complete-by}
-use Rattle.picks.specs.PickCallsLaws.{three-laid}
+use Rattle.completing.specs.HeldLaws.{inputs-joined, joined-placed, three-counts}
+use Rattle.completing.specs.CompleteLaws.{complete-by, three-laid}
 use borrow.Author.Needs.{needs}
-use Rattle.picks.proofs.complete.Statement.{statement}
-use Rattle.picks.proofs.complete.Tie as tie
+use Rattle.completing.proofs.complete.Statement.{statement}
+use Rattle.completing.proofs.complete.Tie as tie
 
 range-of-requires : tie.Need-range-of-requires
 range-of-requires c κs = search needs

@@ -1,14 +1,14 @@
--- `picks::with_pointer` meets its contract. Assumes nothing.
+-- `completing::with_pointer` meets its contract. Assumes nothing.
 use mathlib.Core.Path.{ap, _∙_}
 use mathlib.Core.Bool.{true}
 use lib.ListN.{set}
 use Rattle.keys.specs.declared.Key.{Key}
 use Rattle.keys.specs.Key.{keyOf}
 use Rattle.store.proofs.Shape as store-shape
-use Rattle.picks.specs.HeldLaws.{pointer-set}
+use Rattle.completing.specs.HeldLaws.{pointer-set}
 use borrow.Author.Needs.{needs}
-use Rattle.picks.proofs.with_pointer.Statement.{statement}
-use Rattle.picks.proofs.with_pointer.Tie as tie
+use Rattle.completing.proofs.with_pointer.Statement.{statement}
+use Rattle.completing.proofs.with_pointer.Tie as tie
 
 kept-requires : tie.Need-kept-requires
 kept-requires c κs = search needs

@@ -1,16 +1,16 @@
--- Laws of inputs held as places: how many they are, their bytes, two lists joined, and the files that overlap a range. Assumes nothing.
-use Prim.Native.Nat.{ℕ, _+_, _-_, _*_, _^_, _≤_, _<_}
+-- Laws of inputs held as places: two lists joined, none, how many they are, their bytes; and of a pointer that is set. Assumes nothing.
+use Prim.Native.Nat.{ℕ, _+_, _*_, _^_, _≤_, _<_}
 use mathlib.Core.Path.{_≡_, refl, sym, ap, subst, _∙_}
 use mathlib.Core.Logic.{⊎-elim}
 use mathlib.Core.Bool.{true}
 use mathlib.Core.Option.{some}
-use mathlib.Core.List.{List, [], _∷_, _++_, map, List·Memᴰ as In, List·Memᴰ·head as here, List·Memᴰ·tail as there, List·Memᴰ·not-nil as not-nil, List·Memᴰ·eq-of-singleton as in-one, List·Memᴰ·append-cases as append-cases}
+use mathlib.Core.List.{List, [], _∷_, _++_, map, List·Memᴰ as In, List·Memᴰ·head as here, List·Memᴰ·tail as there, List·Memᴰ·not-nil as not-nil, List·Memᴰ·append-cases as append-cases}
 use native.Mathlib.Omega.{arith}
 use lib.ListN.{length, getD, take, set, replicate, length-replicate, length-map}
 use lib.Seq.{length-take-le}
 use Rattle.lemmas.specs.Lists.{all, sum}
 use Rattle.lemmas.specs.ListLaws.{all-in, getD-in}
-use Rattle.lemmas.specs.Slices.{length-put, in-front, getD-map, sum-next, sum-take}
+use Rattle.lemmas.specs.Slices.{in-front, getD-map, sum-next, sum-take}
 use Rattle.lemmas.specs.Maps.{map-set}
 use Rattle.model.specs.File.{File, full, total, maxSize, goodFile, setPointer}
 use Rattle.model.specs.Formed.{goodFile-says}
@@ -24,31 +24,15 @@ use Rattle.store.specs.declared.Store.{Store}
 use Rattle.store.specs.Store.{pointerOf, pointerRecord, stateOf, storeOf, wellStore}
 use Rattle.store.specs.StoreLaws as store
 use Rattle.gathering.specs.declared.Places.{Places}
-use Rattle.gathering.specs.Places.{inputsOf, Held, listedAt, placesOf, joinedPlaces, Placed, fileAt, filesAt, startAt, endAt}
-use Rattle.gathering.specs.PlacesLaws.{listed-of, placed-of, listed-count, joined-count, joined-listed, files-append, laying-start, laying-cons, laying-nil}
-use Rattle.gathering.specs.CallsLaws.{level-ends}
-use Rattle.gathering.specs.Found.{Summed, Known}
-use Rattle.gathering.specs.FoundLaws.{summed-one}
-use Rattle.picks.specs.Picks.{oneFound}
+use Rattle.gathering.specs.Places.{inputsOf, Held, listedAt, joinedPlaces, Placed, fileAt, filesAt}
+use Rattle.gathering.specs.PlacesLaws.{listed-count, joined-count, joined-listed, files-append}
 
 -- ---- inputs
 module _ (s : Store) where
-  -- the files at a list of places
-  pub inputs-at : (ps : List ℕ) → inputsOf s (placesOf ps) ≡ filesAt (s .files) ps
-  unfolding inputsOf
-  inputs-at ps = ap (filesAt (s .files)) (listed-of ps)
-
   -- the files at two lists of places
   pub inputs-joined : (p q : Places) → p .count + q .count ≤ length (p .at) → q .count ≤ length (q .at) → inputsOf s (joinedPlaces p q) ≡ inputsOf s p ++ inputsOf s q
   unfolding inputsOf
   inputs-joined p q h k = ap (filesAt (s .files)) (joined-listed p q h k) ∙ files-append (s .files) (listedAt p) (listedAt q)
-
--- an array of places has its room
-array-of : (ps : List ℕ) → length ps ≤ 256 → length (placesOf ps .at) ≡ 256
-unfolding placesOf
-array-of ps h =
-    let n : length (replicate {A = ℕ} 256 0) ≡ 256 = length-replicate {A = ℕ} 256 0 in
-    length-put (replicate {A = ℕ} 256 0) 0 ps (omega arith) ∙ n
 
 -- places of two lists that hold files
 pub joined-placed : (n : ℕ) (p q : Places) → length (p .at) ≡ 256 → length (q .at) ≡ 256 → Placed n p → Placed n q → p .count + q .count ≤ 256 → Placed n (joinedPlaces p q)
@@ -59,36 +43,6 @@ joined-placed n p q e f h k r =
       room = omega (arith, joined-count p q a b);
       below = λ i m. ⊎-elim (λ z. h .below i z) (λ z. k .below i z) (append-cases (listedAt p) (subst (λ (l : List ℕ). In i l) (joined-listed p q a b) m));
     }
-
--- ---- one place
-pub one-is : (i : ℕ) → record { at = set (replicate 256 0) 0 i; count = 1 } ≡ placesOf (i ∷ [])
-one-is i =
-    let d = replicate {A = ℕ} 256 0 in
-    let n : length d ≡ 256 = length-replicate {A = ℕ} 256 0 in
-    sym (laying-nil (set d 0 i) 1) ∙ laying-cons d 0 i [] (omega arith) ∙ laying-start (i ∷ [])
-
--- a place of a level
-one-held : (s : Store) (n i : ℕ) → wellStore s ≡ true → startAt s n ≤ i → i < endAt s n → Held s n (placesOf (i ∷ []))
-unfolding placesOf
-one-held s n i h a b =
-    let ends = level-ends s n in
-    record {
-      array = array-of (i ∷ []) (omega arith);
-      placed = placed-of (sum (s .counts)) (i ∷ []) (omega arith) (λ j m. let e = in-one m in omega arith);
-      few = omega arith;
-    }
-
--- the file there
-pub one-inputs : (s : Store) (i : ℕ) → inputsOf s (placesOf (i ∷ [])) ≡ fileAt (s .files) i ∷ []
-unfolding filesAt
-one-inputs s i = inputs-at s (i ∷ [])
-
--- it is found there
-pub one-known : (s : Store) (n i : ℕ) → wellStore s ≡ true → startAt s n ≤ i → i < endAt s n → Known s n (oneFound i (getD (s .files) i past))
-unfolding oneFound fileAt
-one-known s n i h a b =
-    let f = getD (s .files) i past in
-    record { held = one-held s n i h a b; sums = subst (λ (fs : List File). Summed fs (record { low = f .smallest; high = f .largest }) (f .size)) (sym (one-inputs s i)) (summed-one f) }
 
 -- no place
 pub none-held : (s : Store) (n : ℕ) → Held s n (record { at = replicate 256 0; count = 0 })
