@@ -428,7 +428,7 @@ fn bench_overlap(files: u64, repeats: u64) -> u64 {
     let mut done: u64 = 0;
     let mut k: u64 = 0;
     while k < repeats {
-        let l = ranges::overlapping_inputs(s, 2, cam_key(scattered(k)), cam_key(scattered(k)));
+        let l = gathering::overlapping_inputs(s, 2, cam_key(scattered(k)), cam_key(scattered(k)));
         let o = l.outcome;
         if is_done(o) {
             done = (done + 1) % 1000000000;

@@ -1,5 +1,5 @@
 pub mod Picks
-pub mod HeldLaws
+pub mod OneLaws
 pub mod ChoiceLaws
 pub mod StartLaws
 pub mod PickCallsLaws

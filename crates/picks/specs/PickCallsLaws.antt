@@ -2,15 +2,14 @@
 use Prim.Native.Nat.{ℕ, zero, suc, _+_, _≤_, _<_}
 use mathlib.Core.Path.{_≡_, refl, sym, ap, subst, _∙_}
 use mathlib.Core.Bool.{Bool, true, false, _&&_, cond}
-use mathlib.Core.List.{List, [], _∷_, _++_, map, append-assoc, append-nil, Option·toList}
+use mathlib.Core.List.{List, [], _∷_, Option·toList}
 use mathlib.Core.Option.{Option, none, some}
 use native.Mathlib.Omega.{arith}
 use lib.Dec.{eqb}
 use borrow.Author.Tests.{eq-eqb, ne-eqb}
 use lib.ListN.{length}
 use Rattle.lemmas.specs.Order.{clash}
-use Rattle.lemmas.specs.Lists.{join, isEmpty}
-use Rattle.lemmas.specs.Slices.{put}
+use Rattle.lemmas.specs.Lists.{isEmpty}
 use Rattle.model.specs.Answer.{gives, refused, Refusal, _⇒_, firstOf}
 use Rattle.model.specs.File.{File, State, full, level, pointer}
 use Rattle.model.specs.Key.{Key, goodKey}
@@ -18,22 +17,13 @@ use Rattle.model.specs.Pick.{startFile, sizeInputs, manualInputs, bySize, manua
 use Rattle.model.specs.PickLaws.{due-nonempty}
 use Rattle.model.specs.Range.{between}
 use Rattle.model.specs.Score.{score, levelToCompact, due, reported}
-use Rattle.records.specs.Record.{recordOf, vacant}
-use Rattle.levels.specs.Levels.{laidOut}
-use Rattle.lists.specs.List.{listOf}
 use Rattle.store.specs.declared.Store.{Store}
 use Rattle.store.specs.Store.{stateOf, wellStore, onStore}
 use Rattle.store.specs.StoreLaws as store
-use Rattle.ranges.specs.CallsLaws.{asked-ill, asked-beyond, asked-key, asked-on}
+use Rattle.gathering.specs.CallsLaws.{asked-ill, asked-beyond, asked-key, asked-on}
+use Rattle.completing.specs.CompleteLaws.{none-left, some-left}
 use Rattle.picks.specs.Picks.{startIn, takenFrom}
-use Rattle.picks.specs.ChoiceLaws.{none-left, some-left}
 use Rattle.picks.specs.StartLaws.{start-nothing}
-
--- the three lists of a pick, laid down one after another
-pub three-laid : (first second grand : List File) → listOf ((first ++ second) ++ grand) .files ≡ laidOut (first ∷ second ∷ grand ∷ [])
-unfolding listOf laidOut join
-three-laid first second grand =
-    ap (λ (fs : List File). put (vacant (full .room)) 0 (map recordOf fs)) (append-assoc first second grand ∙ ap (λ (fs : List File). first ++ (second ++ fs)) (sym (append-nil grand)))
 
 -- ---- a size pick
 -- from the file to start with

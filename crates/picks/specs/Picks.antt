@@ -1,4 +1,4 @@
--- The inputs of a pick as places in a store's array, and the file to start with. Assumes nothing.
+-- The first inputs of a pick as places in a store's array, and the file to start with. Assumes nothing.
 use Prim.Native.Nat.{ℕ, zero, suc, _-_, min}
 use mathlib.Core.List.{List, [], _∷_}
 use mathlib.Core.Option.{Option, none, some, orElse}
@@ -11,8 +11,8 @@ use Rattle.records.specs.declared.FileRecord.{FileRecord}
 use Rattle.store.specs.declared.Store.{Store}
 use Rattle.store.specs.Store.{pointerOf}
 use Rattle.store.specs.StoreLaws.{past}
-use Rattle.ranges.specs.declared.Found.{Found}
-use Rattle.ranges.specs.Ranges.{placesOf, fileAt, startAt, endAt}
+use Rattle.gathering.specs.declared.Found.{Found}
+use Rattle.gathering.specs.Places.{placesOf, fileAt, startAt, endAt}
 use Rattle.picks.specs.declared.Start.{Start}
 use Rattle.picks.specs.declared.Start.the-variants.{At, Nothing}
 

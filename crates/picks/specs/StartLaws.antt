@@ -28,8 +28,8 @@ use Rattle.store.specs.declared.Pointer.{Pointer}
 use Rattle.store.specs.declared.Store.{Store}
 use Rattle.store.specs.Store.{pointerOf, stateOf, wellStore}
 use Rattle.store.specs.StoreLaws.{past}
-use Rattle.ranges.specs.Ranges.{fileAt, startAt, endAt}
-use Rattle.ranges.specs.CallsLaws.{level-run, level-ends, files-room}
+use Rattle.gathering.specs.Places.{fileAt, startAt, endAt}
+use Rattle.gathering.specs.CallsLaws.{level-run, level-ends, files-room}
 use Rattle.picks.specs.Picks.{firstPlace, startPlace, startIn}
 
 -- ---- the search, turn by turn

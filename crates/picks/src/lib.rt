@@ -1,32 +1,29 @@
-// What to compact: size picks and manual picks. The inputs are places in the store's array until the picked files are copied, once.
+// What to compact: size picks and manual picks. The first inputs are places in the store's array.
 ghost use mathlib.Core.Path.{_≡_};
 ghost use mathlib.Core.Bool.{true, cond};
 ghost use mathlib.Core.Option.{none};
-ghost use Prim.Native.Nat.{_+_, _<_, _≤_};
-ghost use Rattle.model.specs.Answer.{gives, refused};
-ghost use Rattle.model.specs.File.{full, setPointer};
+ghost use Prim.Native.Nat.{_<_};
+ghost use Rattle.model.specs.Answer.{refused};
+ghost use Rattle.model.specs.File.{full};
 ghost use Rattle.model.specs.File as version;
 ghost use Rattle.model.specs.Pick as model;
-ghost use Rattle.model.specs.Range.{overlapping};
 ghost use Rattle.keys.specs.Key.{keyOf};
-ghost use Rattle.store.specs.Store.{stateOf, storeOf, wellStore, onStore};
-ghost use Rattle.picked.specs.Picked.{causeOf, pickOf};
-ghost use Rattle.ranges.specs.Ranges.{spanOf, inputsOf, Held};
-ghost use Rattle.ranges.specs.Found.{Known};
+ghost use Rattle.store.specs.Store.{stateOf, wellStore, onStore};
+ghost use Rattle.picked.specs.Picked.{pickOf};
+ghost use Rattle.gathering.specs.Places.{inputsOf};
+ghost use Rattle.gathering.specs.Found.{Known};
 ghost use Rattle.picks.specs.Picks.{oneFound, limitOf, placeOf, startIn, takenFrom};
 use answers::Outcome;
 use answers::Refusal;
+use gathering::Found;
+use gathering::Places;
 use keys::Key;
 use picked::Cause;
 use picked::Pick;
 use picked::Picked;
-use ranges::Found;
-use ranges::Places;
-use ranges::Span;
 use records::Ends;
 use records::FileRecord;
 use records::Level;
-use store::Pointer;
 use store::Store;
 
 // What a search for the file to start with found: its place, or nothing.
@@ -34,9 +31,6 @@ pub enum Start {
     At(usize),
     Nothing,
 }
-
-// The inputs of a pick may grow while their bytes are below so many times the maximum file size.
-const GROWTH_TIMES: u64 = 25;
 
 // No pick, the store as it was, with the number of the refusal.
 fn refuse(s: Store, n: u8) -> Pick
@@ -130,8 +124,8 @@ fn size_inputs(s: Store, level: usize, one: Found) -> Found
     ensures { λ r. ⌜ Known s level r × (inputsOf s (r .places) ≡ takenFrom level (version.level (stateOf s) level) (inputsOf s (one .places))) ⌝ }
 {
     if level == 0 {
-        let span = ranges::range_of(one);
-        return ranges::found_in(s, 0, span, Found::ALL);
+        let span = gathering::range_of(one);
+        return gathering::found_in(s, 0, span, Found::ALL);
     }
     one
 }
@@ -144,98 +138,6 @@ fn limit_of(level: usize, maximum: u64) -> u64
         return Found::ALL;
     }
     maximum
-}
-
-// The level's files overlapping the joint range in place of the first inputs, if they are more in number, their bytes and the second inputs' together are
-// below 25 M, and their own range overlaps equally many files of level + 1. For callers of this repository, who have tested the store, M and the level.
-fn grown_first(s: Store, maximum: u64, level: usize, first: Found, second: Found) -> Found
-    requires { ⌜ (wellStore s ≡ true) × (level < 6) × (maximum ≤ 4294967296) × Known s level first × Known s (level + 1) second ⌝ }
-    ensures { λ r. ⌜ Known s level r × (inputsOf s (r .places) ≡ model.grownFirst (stateOf s) maximum level (inputsOf s (first .places)) (inputsOf s (second .places))) ⌝ }
-{
-    if second.places.count == 0 {
-        return first;
-    }
-    let both = ranges::joint_range(first, second);
-    let grown = ranges::found_in(s, level, both, Found::ALL);
-    if grown.places.count <= first.places.count {
-        return first;
-    }
-    if GROWTH_TIMES * maximum <= grown.bytes + second.bytes {
-        return first;
-    }
-    let own = ranges::range_of(grown);
-    let again = ranges::found_in(s, level + 1, own, Found::ALL);
-    if again.places.count != second.places.count {
-        return first;
-    }
-    grown
-}
-
-// The grandparents: the files of level + 2 overlapping a range; level 5 has none.
-fn grandparents(s: Store, level: usize, span: Span) -> Places
-    requires { ⌜ (wellStore s ≡ true) × (level < 6) ⌝ }
-    ensures { λ r. ⌜ Held s (level + 2) r × (inputsOf s r ≡ model.grandOf full (stateOf s) level (spanOf span)) ⌝ }
-{
-    if Level::COUNT <= level + 2 {
-        return Places {
-            at: [0usize; 256],
-            count: 0,
-        };
-    }
-    let found = ranges::found_in(s, level + 2, span, Found::ALL);
-    found.places
-}
-
-// The store with a level's pointer set. For callers of this repository, who have tested the store and the level.
-fn with_pointer(s: Store, level: usize, key: Key) -> Store
-    requires { ⌜ (wellStore s ≡ true) × (level < 7) ⌝ }
-    ensures { λ r. ⌜ r ≡ storeOf (setPointer (stateOf s) level (keyOf key)) ⌝ }
-{
-    let kept = keys::kept(key);
-    let mut pointers = s.pointers;
-    pointers[level] = Pointer {
-        set: true,
-        key: kept,
-    };
-    let mut t = s;
-    t.pointers = pointers;
-    t
-}
-
-// The rest of a pick from its first inputs: second inputs, growth, grandparents, and the level's pointer at the first inputs' largest key.
-// For callers of this repository, who have tested the store, M and the level.
-fn complete(s: Store, maximum: u64, cause: Cause, level: usize, first: Found) -> Pick
-    requires { ⌜ (wellStore s ≡ true) × (level < 6) × (maximum ≤ 4294967296) × Known s level first ⌝ }
-    ensures { λ r. ⌜ r ≡ pickOf s (gives (model.complete full (stateOf s) maximum (causeOf cause) level (inputsOf s (first .places)))) ⌝ }
-{
-    let span = ranges::range_of(first);
-    let second = ranges::found_in(s, level + 1, span, Found::ALL);
-    let chosen = grown_first(s, maximum, level, first, second);
-    let both = ranges::joint_range(chosen, second);
-    let grand = grandparents(s, level, both);
-    let a = chosen.places;
-    let b = second.places;
-    let inputs = ranges::joined(a, b);
-    let all = ranges::joined(inputs, grand);
-    let list = ranges::list_at(s, all);
-    let laid = list.files;
-    let ends = chosen.ends;
-    let high = ends.high;
-    let outcome = Outcome::Done;
-    let picked = Picked {
-        level: level,
-        cause: cause,
-        maximum: maximum,
-        files: laid,
-        first: a.count,
-        second: b.count,
-        grand: grand.count,
-    };
-    Pick {
-        outcome: outcome,
-        picked: picked,
-        store: with_pointer(s, level, high),
-    }
 }
 
 // A size pick, of a store that is known to be well-formed. For callers of this repository, who have tested it.
@@ -256,7 +158,7 @@ pub fn pick_known(s: Store, maximum: u64) -> Pick
     let one = one_file(i, f);
     let first = size_inputs(s, level, one);
     let cause = Cause::Size(scored.score);
-    complete(s, maximum, cause, level, first)
+    completing::complete(s, maximum, cause, level, first)
 }
 
 // A size pick at the level with the greatest score; refused with 10 where no work is due.
@@ -290,12 +192,12 @@ pub fn compact_known(s: Store, maximum: u64, level: usize, start: Key, stop: Key
         return refuse(s, Refusal::LAST_LEVEL);
     }
     let span = ranges::between(start, stop);
-    let first = ranges::found_in(s, level, span, limit_of(level, maximum));
+    let first = gathering::found_in(s, level, span, limit_of(level, maximum));
     if first.places.count == 0 {
         return refuse(s, Refusal::NOTHING);
     }
     let cause = Cause::Manual;
-    complete(s, maximum, cause, level, first)
+    completing::complete(s, maximum, cause, level, first)
 }
 
 // A manual pick of the files of a level that overlap the range of two internal keys.

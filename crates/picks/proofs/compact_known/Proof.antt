@@ -15,10 +15,11 @@ use Rattle.model.specs.Range.{Range, between, overlapping}
 use Rattle.keys.specs.Key.{keyOf}
 use Rattle.store.specs.Store.{stateOf}
 use Rattle.picked.specs.Picked.{causeOf, pickOf}
-use Rattle.ranges.specs.Ranges.{spanOf, inputsOf}
+use Rattle.ranges.specs.Ranges.{spanOf}
 use Rattle.ranges.specs.RangesLaws.{span-between}
-use Rattle.ranges.specs.CallsLaws.{wrong-left, wrong-right}
-use Rattle.ranges.specs.FoundLaws.{held-count}
+use Rattle.gathering.specs.Places.{inputsOf}
+use Rattle.gathering.specs.CallsLaws.{wrong-left, wrong-right}
+use Rattle.gathering.specs.FoundLaws.{held-count}
 use Rattle.picks.specs.Picks.{limitOf}
 use Rattle.picks.specs.ChoiceLaws.{manual-limited, maximum-most}
 use Rattle.picks.specs.PickCallsLaws.{firstIn, range-beyond, range-key, range-bad, range-last, range-nothing, range-done}

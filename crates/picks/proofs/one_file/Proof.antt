@@ -1,8 +1,8 @@
 -- `picks::one_file` meets its contract. Assumes nothing.
 use mathlib.Core.Path.{ap}
-use Rattle.ranges.specs.declared.Places.{Places}
+use Rattle.gathering.specs.declared.Places.{Places}
 use Rattle.picks.specs.Picks.{oneFound}
-use Rattle.picks.specs.HeldLaws.{one-is}
+use Rattle.picks.specs.OneLaws.{one-is}
 use borrow.Author.Needs.{needs}
 use Rattle.picks.proofs.one_file.Statement.{statement}
 use Rattle.picks.proofs.one_file.Tie as tie

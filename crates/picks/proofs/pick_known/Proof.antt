@@ -18,12 +18,12 @@ use Rattle.scores.specs.declared.Scored.{Scored}
 use Rattle.scores.specs.Scores.{scoredAs, scoredOf}
 use Rattle.scores.specs.ScoresLaws.{level-below}
 use Rattle.picked.specs.Picked.{causeOf, pickOf}
-use Rattle.ranges.specs.Ranges.{fileAt, startAt, endAt, inputsOf}
-use Rattle.ranges.specs.declared.Found.{Found}
-use Rattle.ranges.specs.Found.{Known}
-use Rattle.ranges.specs.CallsLaws.{level-ends, files-room}
+use Rattle.gathering.specs.Places.{fileAt, startAt, endAt, inputsOf}
+use Rattle.gathering.specs.declared.Found.{Found}
+use Rattle.gathering.specs.Found.{Known}
+use Rattle.gathering.specs.CallsLaws.{level-ends, files-room}
 use Rattle.picks.specs.Picks.{oneFound, placeOf, startIn, takenFrom}
-use Rattle.picks.specs.HeldLaws.{one-known, one-inputs}
+use Rattle.picks.specs.OneLaws.{one-known, one-inputs}
 use Rattle.picks.specs.ChoiceLaws.{maximum-most}
 use Rattle.picks.specs.StartLaws.{start-found, start-within}
 use Rattle.picks.specs.PickCallsLaws.{size-bad, size-idle, size-done, size-from, nothing-due, found-due}

@@ -4,8 +4,9 @@ use native.Mathlib.Omega.{arith}
 use Rattle.model.specs.File.{level}
 use Rattle.model.specs.Range.{rangeOf}
 use Rattle.store.specs.Store.{stateOf}
-use Rattle.ranges.specs.Ranges.{spanOf, inputsOf}
-use Rattle.ranges.specs.FoundLaws.{all-taken, known-range}
+use Rattle.ranges.specs.Ranges.{spanOf}
+use Rattle.gathering.specs.Places.{inputsOf}
+use Rattle.gathering.specs.FoundLaws.{all-taken, known-range}
 use Rattle.picks.specs.ChoiceLaws.{taken-first, taken-deeper}
 use borrow.Author.Needs.{needs}
 use Rattle.picks.proofs.size_inputs.Statement.{statement}

@@ -12,7 +12,7 @@ use Rattle.keys.specs.Key.{keyOf}
 use Rattle.store.specs.Store.{pointerOf}
 use Rattle.store.specs.StoreLaws.{past}
 use Rattle.store.proofs.Shape as store-shape
-use Rattle.ranges.specs.CallsLaws.{level-ends, files-room}
+use Rattle.gathering.specs.CallsLaws.{level-ends, files-room}
 use Rattle.picks.specs.Picks.{placeOf, startPlace, startIn}
 use Rattle.picks.specs.StartLaws.{placesFrom, isAfter, after-here, after-later, after-none, start-none, start-unset, start-after, start-wraps}
 use Rattle.picks.proofs.size_start.Statement.{statement}

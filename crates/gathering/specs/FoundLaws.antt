@@ -1,0 +1,503 @@
+-- Laws of files found: the ends of two lists joined, and a search over a run in order of smallest keys, turn by turn. Assumes nothing.
+use Prim.Native.Nat.{ℕ, zero, suc, _+_, _^_, _≤_, _<_}
+use mathlib.Core.Path.{_≡_, refl, sym, ap, subst, _∙_}
+use mathlib.Core.Bool.{Bool, true, false, not, cond, _&&_, _||_}
+use mathlib.Core.Logic.{⊎-elim}
+use mathlib.Core.List.{List, [], _∷_, _++_, map, map-append, append-assoc, append-nil, List·Memᴰ as In, List·Memᴰ·append-cases as append-cases, List·Memᴰ·eq-of-singleton as in-one, List·Memᴰ·not-nil as not-nil}
+use native.Mathlib.Omega.{arith}
+use native.Mathlib.Numerals.{add-one}
+use lib.Dec.{ltb}
+use borrow.Author.Tests.{lt-ltb, le-ltb, ltb-true, ltb-false, not-true}
+use lib.ListN.{length, getD, take, set, replicate, length-set, length-replicate}
+use lib.Seq.{take-suc-set, length-take-le}
+use Rattle.lemmas.specs.Lists.{chain, keep, sum, push, find}
+use Rattle.lemmas.specs.ListLaws.{and-left, and-right, chain-rest, Sub, sub-all}
+use Rattle.lemmas.specs.Loops.{keep-here, keep-later}
+use Rattle.lemmas.specs.Slices.{sum-append}
+use Rattle.lemmas.specs.Order.{StrictWeak, clash, lt-le, flip-order}
+use Rattle.model.specs.File.{File, full, level, total, bySmallest, maxSize}
+use Rattle.model.specs.Formed.{formed-says, goodFile-says, goodFile-order, levels-sorted}
+use Rattle.model.specs.Key.{Key, user, userBefore, before, before-order, userBefore-order, before-user}
+use Rattle.model.specs.Pick.{upTo}
+use Rattle.model.specs.PickLaws.{overlapping-sub}
+use Rattle.model.specs.PickedLaws.{GoodLevel, goodLevel-says, part-good}
+use Rattle.model.specs.ScoreLaws.{total-most}
+use Rattle.model.specs.Range.{Range, between, overlaps, widen, overlapping, lowKey, highKey, rangeOf}
+use Rattle.model.specs.RangeLaws.{smallestOf, largestOf, low-fold, high-fold}
+use Rattle.keys.specs.declared.Key as keys
+use Rattle.keys.specs.Key.{keyOf}
+use Rattle.records.specs.Record.{fileOf}
+use Rattle.records.specs.RecordLaws.{past, run-turn, run-ended, total-turn, total-ended}
+use Rattle.records.specs.Run.{run}
+use Rattle.records.specs.declared.Ends.{Ends}
+use Rattle.records.specs.declared.FileRecord.{FileRecord}
+use Rattle.store.specs.declared.Store.{Store}
+use Rattle.store.specs.Store.{stateOf, wellStore}
+use Rattle.store.specs.StoreLaws as store
+use Rattle.ranges.specs.Ranges.{spanOf, spanRecord}
+use Rattle.ranges.specs.RangesLaws.{span-between}
+use Rattle.gathering.specs.declared.Found.{Found}
+use Rattle.gathering.specs.declared.Places.{Places}
+use Rattle.gathering.specs.Places.{listedAt, fileAt, filesAt, startAt, endAt, inputsOf, Held}
+use Rattle.gathering.specs.CallsLaws.{level-run, level-ends, files-room}
+use Rattle.gathering.specs.PlacesLaws.{files-append, files-length}
+use Rattle.gathering.specs.Found.{lowWith, highWith, rising, Ordered, Summed, Gathered, Gathering, restTo, Known, rangeFound, jointFound}
+
+-- ---- the first of the least of three, whichever two are looked at first
+module _ {A : Type 0} (lt : A → A → Bool) (o : StrictWeak lt) where
+  abbrev least : A → A → A
+  least a b = cond (lt b a) b a
+
+  least-assoc : (a b c : A) → least (least a b) c ≡ least a (least b c)
+  least-assoc a b c = go (lt b a) (lt c b) (lt c a) refl refl refl
+    where
+      go : (p q r : Bool) → lt b a ≡ p → lt c b ≡ q → lt c a ≡ r → cond (lt c (cond (lt b a) b a)) c (cond (lt b a) b a) ≡ cond (lt (cond (lt c b) c b) a) (cond (lt c b) c b) a
+      go true true true e f g = rw (e, f, g)
+      go true true false e f g = clash (o .trans c b a f e) g
+      go true false r e f g = rw (e, f, e)
+      go false true r e f g = rw (e, f)
+      go false false true e f g = clash (lt-le lt o c a b g e) f
+      go false false false e f g = rw (e, f, g, e)
+
+-- ---- the first of the least keys of files, by going through them once
+module _ (lt : Key → Key → Bool) (part : File → Key) where
+  unfoldable leastFrom : Key → List File → Key
+  leastFrom k [] = k
+  leastFrom k (f ∷ fs) = leastFrom (cond (lt (part f) k) (part f) k) fs
+
+  from-append : (k : Key) (fs gs : List File) → leastFrom k (fs ++ gs) ≡ leastFrom (leastFrom k fs) gs
+  unfolding leastFrom
+  from-append k [] gs = refl
+  from-append k (f ∷ fs) gs = from-append (cond (lt (part f) k) (part f) k) fs gs
+
+  module _ (o : StrictWeak lt) where
+    from-least : (a b : Key) (fs : List File) → leastFrom (cond (lt b a) b a) fs ≡ cond (lt (leastFrom b fs) a) (leastFrom b fs) a
+    unfolding leastFrom
+    from-least a b [] = refl
+    from-least a b (f ∷ fs) = ap (λ (k : Key). leastFrom k fs) (least-assoc lt o a b (part f)) ∙ from-least a (cond (lt (part f) b) (part f) b) fs
+
+    -- of two lists joined
+    from-joined : (f g : File) (fs gs : List File) (x y : Key) → leastFrom (part f) fs ≡ x → leastFrom (part g) gs ≡ y → leastFrom (part f) (fs ++ (g ∷ gs)) ≡ cond (lt y x) y x
+    unfolding leastFrom
+    from-joined f g fs gs x y d e = from-append (part f) fs (g ∷ gs) ∙ from-least (leastFrom (part f) fs) (part g) gs ∙ rw (d, e)
+
+-- the smallest key is the least one so
+smallest-is : (k : Key) (fs : List File) → smallestOf k fs ≡ leastFrom before (λ f. f .smallest) k fs
+unfolding smallestOf leastFrom
+smallest-is k [] = refl
+smallest-is k (f ∷ fs) = smallest-is (cond (before (f .smallest) k) (f .smallest) k) fs
+
+-- the largest in the order turned round
+largest-is : (k : Key) (fs : List File) → largestOf k fs ≡ leastFrom (λ a b. before b a) (λ f. f .largest) k fs
+unfolding largestOf leastFrom
+largest-is k [] = refl
+largest-is k (f ∷ fs) = largest-is (cond (before k (f .largest)) (f .largest) k) fs
+
+-- of files this is their smallest key
+low-is : (f : File) (fs : List File) → leastFrom before (λ f. f .smallest) (f .smallest) fs ≡ lowKey (f ∷ fs)
+low-is f fs = sym (low-fold f fs ∙ smallest-is (f .smallest) fs)
+
+-- and, by the order turned round, their largest
+high-is : (f : File) (fs : List File) → leastFrom (λ a b. before b a) (λ f. f .largest) (f .largest) fs ≡ highKey (f ∷ fs)
+high-is f fs = sym (high-fold f fs ∙ largest-is (f .largest) fs)
+
+-- the smallest key of two lists joined, by those of each
+pub low-joined : (fs gs : List File) → lowKey (fs ++ gs) ≡ lowWith (length fs) (lowKey fs) (length gs) (lowKey gs)
+unfolding lowWith
+low-joined fs [] = ap lowKey (append-nil fs)
+low-joined [] (g ∷ gs) = refl
+low-joined (f ∷ fs) (g ∷ gs) =
+    sym (low-is f (fs ++ (g ∷ gs))) ∙ from-joined before (λ f. f .smallest) before-order f g fs gs (lowKey (f ∷ fs)) (lowKey (g ∷ gs)) (low-is f fs) (low-is g gs)
+
+-- the largest
+pub high-joined : (fs gs : List File) → highKey (fs ++ gs) ≡ highWith (length fs) (highKey fs) (length gs) (highKey gs)
+unfolding highWith
+high-joined fs [] = ap highKey (append-nil fs)
+high-joined [] (g ∷ gs) = refl
+high-joined (f ∷ fs) (g ∷ gs) =
+    sym (high-is f (fs ++ (g ∷ gs))) ∙ from-joined (λ a b. before b a) (λ f. f .largest) (flip-order before before-order) f g fs gs (highKey (f ∷ fs)) (highKey (g ∷ gs)) (high-is f fs) (high-is g gs)
+
+-- where there are files before them and after, or only after
+module _ (a b : Key) (m : ℕ) (k : m ≡ 0 → ⊥) where
+  pub low-only : lowWith 0 a m b ≡ b
+  unfolding lowWith
+  low-only = go m k
+    where
+      go : (m : ℕ) → (m ≡ 0 → ⊥) → lowWith 0 a m b ≡ b
+      go zero k = absurd (k refl)
+      go (suc m) k = refl
+
+  pub high-only : highWith 0 a m b ≡ b
+  unfolding highWith
+  high-only = go m k
+    where
+      go : (m : ℕ) → (m ≡ 0 → ⊥) → highWith 0 a m b ≡ b
+      go zero k = absurd (k refl)
+      go (suc m) k = refl
+
+  pub low-both : (n : ℕ) → (n ≡ 0 → ⊥) → lowWith n a m b ≡ cond (before b a) b a
+  unfolding lowWith
+  low-both = go m k
+    where
+      go : (m : ℕ) → (m ≡ 0 → ⊥) → (n : ℕ) → (n ≡ 0 → ⊥) → lowWith n a m b ≡ cond (before b a) b a
+      go zero k n h = absurd (k refl)
+      go (suc m) k zero h = absurd (h refl)
+      go (suc m) k (suc n) h = refl
+
+  pub high-both : (n : ℕ) → (n ≡ 0 → ⊥) → highWith n a m b ≡ cond (before a b) b a
+  unfolding highWith
+  high-both = go m k
+    where
+      go : (m : ℕ) → (m ≡ 0 → ⊥) → (n : ℕ) → (n ≡ 0 → ⊥) → highWith n a m b ≡ cond (before a b) b a
+      go zero k n h = absurd (k refl)
+      go (suc m) k zero h = absurd (h refl)
+      go (suc m) k (suc n) h = refl
+
+-- of one file they are its own
+low-one : (f : File) → lowKey (f ∷ []) ≡ f .smallest
+unfolding smallestOf
+low-one f = low-fold f []
+
+-- and the largest
+high-one : (f : File) → highKey (f ∷ []) ≡ f .largest
+unfolding largestOf
+high-one f = high-fold f []
+
+-- ---- files up to a total
+-- one that brings it above, or not, and what is taken of the rest
+up-next : (m t : ℕ) (f : File) (fs : List File) → upTo m t (f ∷ fs) ≡ f ∷ restTo m (t + f .size) fs
+unfolding upTo restTo
+up-next m t f fs = refl
+
+-- none is taken above the limit
+rest-above : (m t : ℕ) (fs : List File) → m < t → restTo m t fs ≡ []
+unfolding restTo
+rest-above m t fs h = rw (lt-ltb m t h)
+
+-- up to the limit all that `upTo` takes
+rest-below : (m t : ℕ) (fs : List File) → t ≤ m → restTo m t fs ≡ upTo m t fs
+unfolding restTo
+rest-below m t fs h = rw (le-ltb m t h)
+
+-- of no files none
+rest-none : (m t : ℕ) → restTo m t [] ≡ []
+unfolding restTo upTo
+rest-none m t = go (ltb m t)
+  where
+    go : (b : Bool) → _≡_ {A = List File} (cond b [] []) []
+    go true = refl
+    go false = refl
+
+-- a total that none brings it above
+pub up-all : (m t : ℕ) (fs : List File) → t + total fs ≤ m → upTo m t fs ≡ fs
+unfolding upTo total sum
+up-all m t [] h = refl
+up-all m t (f ∷ fs) h = ap (λ (gs : List File). f ∷ gs) (rw (le-ltb m (t + f .size) (omega arith)) (up-all m (t + f .size) fs (omega arith)))
+
+-- neither of what ends a search
+pub goes-on : (m t : ℕ) (b : Bool) → (ltb m t || b) ≡ false → (t ≤ m) × (b ≡ false)
+goes-on m t b h = go (ltb m t) refl h
+  where
+    go : (u : Bool) → ltb m t ≡ u → (u || b) ≡ false → (t ≤ m) × (b ≡ false)
+    go true e v = clash refl v
+    go false e v = (ltb-false m t e, v)
+
+-- ---- after a file that begins after a range none overlaps
+module _ (r : Range) where
+  abbrev pub begins-after : File → Bool
+  begins-after f = userBefore (r .stop) (user (f .smallest))
+
+  -- it does not overlap
+  after-none : (f : File) → begins-after f ≡ true → overlaps r f ≡ false
+  unfolding overlaps
+  after-none f h = rw h (go (not (userBefore (user (f .largest)) (r .start))))
+    where
+      go : (b : Bool) → (b && false) ≡ false
+      go true = refl
+      go false = refl
+
+  -- one that does not, by its largest key
+  pub over-taken : (f : File) → begins-after f ≡ false → userBefore (user (f .largest)) (r .start) ≡ false → overlaps r f ≡ true
+  unfolding overlaps
+  over-taken f a b = rw (a, b)
+
+  pub over-passed : (f : File) → userBefore (user (f .largest)) (r .start) ≡ true → overlaps r f ≡ false
+  unfolding overlaps
+  over-passed f b = rw b
+
+  -- nor does the next begin before the range's end
+  after-next : (f g : File) → not (bySmallest g f) ≡ true → begins-after f ≡ true → begins-after g ≡ true
+  unfolding bySmallest
+  after-next f g n h =
+      lt-le userBefore userBefore-order (r .stop) (user (f .smallest)) (user (g .smallest)) h
+      (before-user (f .smallest) (g .smallest) (not-true (before (g .smallest) (f .smallest)) n))
+
+  pub none-after : (f : File) (fs : List File) → rising (f ∷ fs) → begins-after f ≡ true → keep (overlaps r) (f ∷ fs) ≡ []
+  unfolding chain keep push
+  none-after f [] c h = rw (after-none f h)
+  none-after f (g ∷ gs) c h =
+      rw (after-none f h)
+      (none-after g gs (and-right (not (bySmallest g f)) (chain (λ f g. not (bySmallest g f)) (g ∷ gs)) c)
+      (after-next f g (and-left (not (bySmallest g f)) (chain (λ f g. not (bySmallest g f)) (g ∷ gs)) c) h))
+
+-- ---- the bytes of two lists
+total-joined : (fs gs : List File) → total (fs ++ gs) ≡ total fs + total gs
+unfolding total
+total-joined fs gs = ap sum (map-append (λ (f : File). f .size) fs gs) ∙ sum-append (map (λ (f : File). f .size) fs) (map (λ (f : File). f .size) gs)
+
+-- one file more
+pub summed-more : (fs : List File) (n : ℕ) (f : File) (ends more : Ends) (bytes : ℕ) → length fs ≡ n → Summed fs ends bytes
+    → keyOf (more .low) ≡ lowWith n (keyOf (ends .low)) 1 (f .smallest) → keyOf (more .high) ≡ highWith n (keyOf (ends .high)) 1 (f .largest) → Summed (fs ++ (f ∷ [])) more (bytes + f .size)
+unfolding total sum
+summed-more fs n f ends more bytes e s l h =
+    let one : total (f ∷ []) ≡ f .size = omega arith in
+    record {
+      low = l ∙ ap (λ (k : Key). lowWith n k 1 (f .smallest)) (s .low) ∙ ap (λ (m : ℕ). lowWith m (lowKey fs) 1 (f .smallest)) (sym e)
+          ∙ ap (lowWith (length fs) (lowKey fs) 1) (sym (low-one f)) ∙ sym (low-joined fs (f ∷ []));
+      high = h ∙ ap (λ (k : Key). highWith n k 1 (f .largest)) (s .high) ∙ ap (λ (m : ℕ). highWith m (highKey fs) 1 (f .largest)) (sym e)
+          ∙ ap (highWith (length fs) (highKey fs) 1) (sym (high-one f)) ∙ sym (high-joined fs (f ∷ []));
+      bytes-are = omega (arith, total-joined fs (f ∷ []), s .bytes-are);
+    }
+
+-- a place more, a file more
+one-file : (files : List FileRecord) (fs : List File) (i : ℕ) → fs ++ filesAt files (i ∷ []) ≡ fs ++ (fileOf (getD files i past) ∷ [])
+unfolding filesAt fileAt
+one-file files fs i = refl
+
+-- one file alone
+pub summed-one : (f : FileRecord) → Summed (fileOf f ∷ []) (record { low = f .smallest; high = f .largest }) (f .size)
+unfolding total sum fileOf
+summed-one f = record { low = sym (low-one (fileOf f)); high = sym (high-one (fileOf f)); bytes-are = omega arith }
+
+-- ---- a search over a run, turn by turn
+module _ (files : List FileRecord) (from to most : ℕ) (r : Range) where
+  -- at the start nothing is taken
+  pub gather-start : (ends : Ends) → Ordered files from to → keyOf (ends .low) ≡ [] → keyOf (ends .high) ≡ [] → Gathering files from to most r (replicate 256 0) ends 0 0 from
+  unfolding filesAt lowKey highKey find total sum
+  gather-start ends o l h = record {
+    few = omega arith;
+    stays = o .within;
+    array = length-replicate {A = ℕ} 256 0;
+    below = λ j m. absurd (not-nil m);
+    sums = record { low = l; high = h; bytes-are = refl };
+    small = omega (arith, o .small);
+    order = o .order;
+    rest = rest-below most 0 (keep (overlaps r) (run from to files)) (omega arith);
+  }
+
+  module _ (at : List ℕ) (ends : Ends) (n bytes i : ℕ) (g : Gathering files from to most r at ends n bytes i) (h : i < to) (q : to ≤ length files) where
+    abbrev now : File
+    now = fileOf (getD files i past)
+
+    abbrev turn : run i to files ≡ now ∷ run (i + 1) to files
+    turn = run-turn i to files h q
+
+    later : rising (run (i + 1) to files)
+    later = chain-rest (λ f g. not (bySmallest g f)) now (run (i + 1) to files) (subst (λ (fs : List File). rising fs) turn (g .order))
+
+    -- the file at i does not overlap
+    pub gather-passed : overlaps r now ≡ false → Gathering files from to most r at ends n bytes (i + 1)
+    unfolding fileOf
+    gather-passed o =
+        let few = g .few in
+        let small = g .small in
+        record {
+          few = omega arith;
+          stays = omega arith;
+          array = g .array;
+          below = g .below;
+          sums = g .sums;
+          small = omega (arith, total-turn i to files h q);
+          order = later;
+          rest = ap (λ (fs : List File). filesAt files (take n at) ++ restTo most bytes fs) (sym (keep-later (overlaps r) (run i to files) (run (i + 1) to files) now turn o)) ∙ g .rest;
+        }
+
+    -- it overlaps and is taken
+    pub gather-taken : to ≤ 256 → bytes ≤ most → overlaps r now ≡ true → (more : Ends)
+        → keyOf (more .low) ≡ lowWith n (keyOf (ends .low)) 1 (now .smallest) → keyOf (more .high) ≡ highWith n (keyOf (ends .high)) 1 (now .largest)
+        → Gathering files from to most r (set at n i) more (n + 1) (bytes + now .size) (i + 1)
+    unfolding fileOf
+    gather-taken room b o more l u =
+        let few = g .few in
+        let small = g .small in
+        let array = g .array in
+        let fits : n < length at = omega arith in
+        let taken = filesAt files (take n at) in
+        let rest = keep (overlaps r) (run (i + 1) to files) in
+        let front : take (n + 1) (set at n i) ≡ take n at ++ (i ∷ []) = rw (add-one n) (take-suc-set at n i fits) in
+        let all : filesAt files (take (n + 1) (set at n i)) ≡ taken ++ (now ∷ []) = ap (filesAt files) front ∙ files-append files (take n at) (i ∷ []) ∙ one in
+        let size : length taken ≡ n = files-length files (take n at) ∙ length-take-le n at (omega arith) in
+        record {
+          few = omega arith;
+          stays = omega arith;
+          array = length-set at n i ∙ array;
+          below = λ j m. ⊎-elim (λ z. g .below j z) (λ z. let e = in-one z in omega arith) (append-cases (take n at) (subst (λ (l : List ℕ). In j l) front m));
+          sums = rw all (summed-more taken n now ends more bytes size (g .sums) l u);
+          small = omega (arith, total-turn i to files h q);
+          order = later;
+          rest = rw all
+              (append-assoc taken (now ∷ []) (restTo most (bytes + now .size) rest)
+              ∙ ap (λ (fs : List File). taken ++ fs) (sym (up-next most bytes now rest) ∙ sym (rest-below most bytes (now ∷ rest) b) ∙ ap (restTo most bytes) (sym (keep-here (overlaps r) (run i to files) (run (i + 1) to files) now turn o)))
+              ∙ g .rest);
+        }
+      where
+        one : filesAt files (take n at) ++ filesAt files (i ∷ []) ≡ filesAt files (take n at) ++ (fileOf (getD files i past) ∷ [])
+        one = one-file files (filesAt files (take n at)) i
+
+    -- nothing of the rest is taken
+    stopped : restTo most bytes (keep (overlaps r) (run i to files)) ≡ [] → Gathering files from to most r at ends n bytes to
+    unfolding keep chain total sum
+    stopped e =
+        let few = g .few in
+        let small = g .small in
+        let ended = run-ended to to files (omega arith) in
+        record {
+          few = omega arith;
+          stays = omega arith;
+          array = g .array;
+          below = g .below;
+          sums = g .sums;
+          small = omega (arith, total-ended to to files (omega arith));
+          order = rw ended;
+          rest = ap (λ (fs : List File). filesAt files (take n at) ++ fs) (ap (λ (fs : List File). restTo most bytes (keep (overlaps r) fs)) ended ∙ rest-none most bytes ∙ sym e) ∙ g .rest;
+        }
+
+    -- the file at i begins after the range
+    past-end : userBefore (r .stop) (user (now .smallest)) ≡ true → Gathering files from to most r at ends n bytes to
+    past-end b =
+        let none : keep (overlaps r) (run i to files) ≡ [] = rw turn (none-after r now (run (i + 1) to files) (subst (λ (fs : List File). rising fs) turn (g .order)) b) in
+        stopped (ap (restTo most bytes) none ∙ rest-none most bytes)
+
+    -- it does so, or the bytes are above the limit
+    pub gather-stops : (b : Bool) → b ≡ userBefore (r .stop) (user (now .smallest)) → (ltb most bytes || b) ≡ true → Gathering files from to most r at ends n bytes to
+    gather-stops b e h = go (ltb most bytes) refl h
+      where
+        go : (t : Bool) → ltb most bytes ≡ t → (t || b) ≡ true → Gathering files from to most r at ends n bytes to
+        go true u v = stopped (rest-above most bytes (keep (overlaps r) (run i to files)) (ltb-true most bytes u))
+        go false u v = past-end (sym e ∙ v)
+
+  -- at the end all are taken
+  pub gather-end : (at : List ℕ) (ends : Ends) (n bytes i : ℕ) → Gathering files from to most r at ends n bytes i → to ≤ i
+      → filesAt files (take n at) ≡ upTo most 0 (keep (overlaps r) (run from to files))
+  unfolding keep
+  gather-end at ends n bytes i g h =
+      sym (ap (λ (fs : List File). filesAt files (take n at) ++ restTo most bytes (keep (overlaps r) fs)) (run-ended i to files h) ∙ ap (λ (fs : List File). filesAt files (take n at) ++ fs) (rest-none most bytes)
+      ∙ append-nil (filesAt files (take n at)))
+      ∙ g .rest
+
+-- ---- files found at a level of a well-formed store
+module _ (s : Store) (n : ℕ) where
+  module _ (h : wellStore s ≡ true) (k : n < 7) where
+    -- some files of the level are good, and their bytes are few
+    level-part : (fs : List File) → Sub fs (level (stateOf s) n) → GoodLevel full n fs × (total fs ≤ 2 ^ 48)
+    unfolding full maxSize
+    level-part fs b =
+        let w = formed-says full (stateOf s) .0 (store.well-says s .0 h .formed) in
+        let g = goodLevel-says full n fs .0 (part-good full (stateOf s) n fs w (omega arith) b) in
+        let room = g .room in
+        (g, omega (arith, total-most fs (λ f m. goodFile-says full f .0 (g .good f m) .size)))
+
+    -- the level is a run in order
+    pub level-ordered : length (s .counts) ≡ 7 → Ordered (s .files) (startAt s n) (endAt s n)
+    level-ordered q =
+        let is = level-run s n (omega arith) in
+        let g = level-part (level (stateOf s) n) (sub-all (level (stateOf s) n)) in
+        record {
+          within = omega arith;
+          room = omega (arith, level-ends s n, files-room s n h);
+          order = subst (λ (fs : List File). rising fs) is (levels-sorted n (level (stateOf s) n) (λ f m. goodFile-order full f (g .0 .good f m)) (g .0 .ordered));
+          small = subst (λ (fs : List File). total fs ≤ 2 ^ 48) is (g .1);
+        }
+
+    -- all its files that overlap a range are taken where the limit is the largest number
+    level-all : (r : Range) → upTo 18446744073709551615 0 (overlapping n (level (stateOf s) n) r) ≡ overlapping n (level (stateOf s) n) r
+    level-all r =
+        let few = level-part (overlapping n (level (stateOf s) n) r) (overlapping-sub n (level (stateOf s) n) r) .1 in
+        up-all 18446744073709551615 0 (overlapping n (level (stateOf s) n) r) (omega arith)
+
+    -- so they are where the range is another's
+    pub all-taken : (fs : List File) (r w : Range) → fs ≡ upTo 18446744073709551615 0 (overlapping n (level (stateOf s) n) r) → r ≡ w → fs ≡ overlapping n (level (stateOf s) n) w
+    all-taken fs r w e q = e ∙ ap (λ (x : Range). upTo 18446744073709551615 0 (overlapping n (level (stateOf s) n) x)) q ∙ level-all w
+
+    -- what a search over the level finds
+    pub level-known : (r : Found) → Gathered (s .files) (startAt s n) (endAt s n) r → Known s n r
+    unfolding inputsOf
+    level-known r g =
+        let few = g .few in
+        let ends = level-ends s n in
+        let room = files-room s n h in
+        record {
+          held = record { array = g .array; placed = record { room = omega arith; below = λ i m. let b = g .below i m in omega arith }; few = omega arith };
+          sums = g .sums;
+        }
+
+  -- as many files as places
+  pub held-count : (p : Places) → Held s n p → length (inputsOf s p) ≡ p .count
+  unfolding inputsOf listedAt
+  held-count p h =
+      let room = h .placed .room in
+      let array = h .array in
+      files-length (s .files) (take (p .count) (p .at)) ∙ length-take-le (p .count) (p .at) (omega arith)
+
+-- the files that overlap the range at level 0, by its least widening; deeper by itself
+pub overlapping-first : (n : ℕ) (fs : List File) (r w : Range) → n ≡ 0 → w ≡ widen fs r → keep (overlaps w) fs ≡ overlapping n fs r
+unfolding overlapping
+overlapping-first n fs r w e f = rw (e, f)
+
+-- above level 0 those that overlap the range itself
+pub overlapping-deeper : (n : ℕ) (fs : List File) (r : Range) → (n ≡ 0 → ⊥) → keep (overlaps r) fs ≡ overlapping n fs r
+unfolding overlapping
+overlapping-deeper zero fs r e = absurd (e refl)
+overlapping-deeper (suc n) fs r e = refl
+
+-- ---- ranges from ends
+-- of files found
+pub known-range : (a : Found) (s : Store) (n : ℕ) → Known s n a → spanOf (rangeFound a) ≡ rangeOf (inputsOf s (a .places))
+unfolding rangeFound rangeOf
+known-range a s n k = span-between (a .ends .low) (a .ends .high) ∙ rw (k .sums .low, k .sums .high)
+
+-- a key that some record holds
+record Held-by (k : Key) : Type 0 where
+  holder : keys.Key
+  holds : keyOf holder ≡ k
+
+-- of two records' keys the one that a test takes
+one : (t : Bool) (a b : keys.Key) → Held-by (cond t (keyOf b) (keyOf a))
+one true a b = record { holder = b; holds = refl }
+one false a b = record { holder = a; holds = refl }
+
+-- the smaller of two records' keys is held by one of them
+low-held : (n m : ℕ) (a b : keys.Key) → Held-by (lowWith n (keyOf a) m (keyOf b))
+unfolding lowWith
+low-held n zero a b = record { holder = a; holds = refl }
+low-held zero (suc m) a b = record { holder = b; holds = refl }
+low-held (suc n) (suc m) a b = one (before (keyOf b) (keyOf a)) a b
+
+-- so is the larger
+high-held : (n m : ℕ) (a b : keys.Key) → Held-by (highWith n (keyOf a) m (keyOf b))
+unfolding highWith
+high-held n zero a b = record { holder = a; holds = refl }
+high-held zero (suc m) a b = record { holder = b; holds = refl }
+high-held (suc n) (suc m) a b = one (before (keyOf a) (keyOf b)) a b
+
+-- the range of joined ends is the joint range
+pub joint-is : (a b : Found) (e : Ends)
+    → keyOf (e .low) ≡ lowWith (a .places .count) (keyOf (a .ends .low)) (b .places .count) (keyOf (b .ends .low))
+    → keyOf (e .high) ≡ highWith (a .places .count) (keyOf (a .ends .high)) (b .places .count) (keyOf (b .ends .high))
+    → spanRecord (between (keyOf (e .low)) (keyOf (e .high))) ≡ jointFound a b
+unfolding jointFound
+joint-is a b e l h = rw (l, h)
+
+-- of two lists of files found
+pub known-joint : (a b : Found) (s : Store) (n m : ℕ) → Known s n a → Known s m b → spanOf (jointFound a b) ≡ rangeOf (inputsOf s (a .places) ++ inputsOf s (b .places))
+unfolding jointFound rangeOf
+known-joint a b s n m k j =
+    let fs = inputsOf s (a .places) in
+    let gs = inputsOf s (b .places) in
+    let f = held-count s n (a .places) (k .held) in
+    let g = held-count s m (b .places) (j .held) in
+    let x = low-held (a .places .count) (b .places .count) (a .ends .low) (b .ends .low) in
+    let y = high-held (a .places .count) (b .places .count) (a .ends .high) (b .ends .high) in
+    let low : keyOf (x .holder) ≡ lowKey (fs ++ gs) = rw (low-joined fs gs, f, g, ← k .sums .low, ← j .sums .low) (x .holds) in
+    let high : keyOf (y .holder) ≡ highKey (fs ++ gs) = rw (high-joined fs gs, f, g, ← k .sums .high, ← j .sums .high) (y .holds) in
+    rw (← x .holds, ← y .holds) (span-between (x .holder) (y .holder) ∙ rw (low, high))
