@@ -127,7 +127,7 @@ fn put_pointer(out: &mut [u8], at: usize, pointers: [Pointer; 7], level: usize) 
 
 // The rest of a pick's line: the pointer, and the deletions of its inputs.
 fn put_end(out: &mut [u8], start: usize, c: Picked, pointers: [Pointer; 7]) -> usize {
-    let d = picked::add_input_deletions(c, Edit::empty());
+    let d = deletions::add_input_deletions(c, Edit::empty());
     let e = d.edit;
     let deletions = e.deletions;
     let mut at = put_pointer(out, start, pointers, c.level);

@@ -1,4 +1,4 @@
--- `picked::lay_inputs` meets its contract. Assumes nothing.
+-- `deletions::lay_inputs` meets its contract. Assumes nothing.
 use Prim.Native.Nat.{ℕ, _+_}
 use mathlib.Core.Path.{_≡_, sym, ap, _∙_}
 use mathlib.Core.List.{List, map}
@@ -8,12 +8,13 @@ use Rattle.lemmas.specs.Laying.{put-next}
 use Rattle.lemmas.specs.Slices.{put, length-of-map}
 use Rattle.model.specs.File.{numbers}
 use Rattle.records.specs.Run.{run}
-use Rattle.picked.specs.Picked.{deletionAt}
-use Rattle.picked.specs.PickedLaws.{well-level, column-lent, deletion-records, named-length}
+use Rattle.deletions.specs.Deletions.{deletionAt}
+use Rattle.picked.specs.PickedLaws.{well-level}
+use Rattle.deletions.specs.DeletionsLaws.{column-lent, deletion-records, named-length}
 use Rattle.picked.proofs.Shape.{shape}
 use borrow.Author.Needs.{needs}
-use Rattle.picked.proofs.lay_inputs.Statement.{statement}
-use Rattle.picked.proofs.lay_inputs.Tie as tie
+use Rattle.deletions.proofs.lay_inputs.Statement.{statement}
+use Rattle.deletions.proofs.lay_inputs.Tie as tie
 
 add-inputs : tie.Need-add-inputs
 add-inputs c = search needs

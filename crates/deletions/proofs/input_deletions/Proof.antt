@@ -1,4 +1,4 @@
--- `picked::input_deletions` meets its contract: 14, then 13, then the levels and the numbers. Assumes nothing.
+-- `deletions::input_deletions` meets its contract: 14, then 13, then the levels and the numbers. Assumes nothing.
 use Prim.Native.Nat.{_+_, min}
 use mathlib.Core.Path.{_≡_, sym, ap, _∙_}
 use mathlib.Core.Bool.{true}
@@ -8,12 +8,14 @@ use borrow.Author.Tests.{not-true, not-false}
 use lib.ListN.{length, replicate, length-replicate}
 use Rattle.lemmas.specs.Laying.{put-next}
 use Rattle.lemmas.specs.Slices.{put}
-use Rattle.picked.specs.Picked.{wellPicked, naming}
-use Rattle.picked.specs.PickedLaws.{well-room, well-level, column-lent, deletions-ill, deletions-short, names-refused, names-done}
+use Rattle.picked.specs.Picked.{wellPicked}
+use Rattle.deletions.specs.Deletions.{naming}
+use Rattle.picked.specs.PickedLaws.{well-room, well-level}
+use Rattle.deletions.specs.DeletionsLaws.{column-lent, deletions-ill, deletions-short, names-refused, names-done}
 use Rattle.picked.proofs.Shape.{shape}
 use borrow.Author.Needs.{needs}
-use Rattle.picked.proofs.input_deletions.Statement.{statement}
-use Rattle.picked.proofs.input_deletions.Tie as tie
+use Rattle.deletions.proofs.input_deletions.Statement.{statement}
+use Rattle.deletions.proofs.input_deletions.Tie as tie
 
 is-well-formed-requires : tie.Need-is-well-formed-requires
 is-well-formed-requires c κs = search needs

@@ -1,4 +1,4 @@
--- `picked::lay_deletions` meets its contract. The loop's invariant: the deletions from i on, laid down after those that are, complete the array. Assumes nothing.
+-- `deletions::lay_deletions` meets its contract. The loop's invariant: the deletions from i on, laid down after those that are, complete the array. Assumes nothing.
 use Prim.Native.Nat.{_+_, _-_, _≤_}
 use mathlib.Core.Path.{_≡_, sym, ap, _∙_}
 use mathlib.Core.List.{map}
@@ -9,9 +9,9 @@ use Rattle.lemmas.specs.Slices.{put, getD-map, length-of-map}
 use Rattle.lemmas.specs.Merge.{lay-starts, lay-turn, lay-ended}
 use Rattle.edits.specs.EditLaws.{pastDeletion}
 use Rattle.edits.specs.declared.Deletion.{Deletion}
-use Rattle.picked.specs.Picked.{deletionAt}
-use Rattle.picked.proofs.lay_deletions.Statement.{statement}
-use Rattle.picked.proofs.lay_deletions.Tie as tie
+use Rattle.deletions.specs.Deletions.{deletionAt}
+use Rattle.deletions.proofs.lay_deletions.Statement.{statement}
+use Rattle.deletions.proofs.lay_deletions.Tie as tie
 
 abbrev Inv-loop : tie.InvT-loop
 Inv-loop at level numbers n deletions₀ i₀ deletions i = (i ≤ n) × (length deletions ≡ 256)

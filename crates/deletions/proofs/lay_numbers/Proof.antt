@@ -1,12 +1,12 @@
--- `picked::lay_numbers` meets its contract. The loop's invariant: what is laid down, with what is left after it, is the whole. Assumes nothing.
+-- `deletions::lay_numbers` meets its contract. The loop's invariant: what is laid down, with what is left after it, is the whole. Assumes nothing.
 use Prim.Native.Nat.{_+_, _-_, _≤_}
 use mathlib.Core.Path.{_≡_, refl, sym, ap, _∙_}
 use native.Mathlib.Omega.{arith}
 use borrow.Author.Needs.{needs}
 use lib.ListN.{length, getD, drop, length-set, drop-of-length-le}
 use Rattle.lemmas.specs.Slices.{put, put-cons, put-nil, rest-cons}
-use Rattle.picked.proofs.lay_numbers.Statement.{statement}
-use Rattle.picked.proofs.lay_numbers.Tie as tie
+use Rattle.deletions.proofs.lay_numbers.Statement.{statement}
+use Rattle.deletions.proofs.lay_numbers.Tie as tie
 
 abbrev Inv-loop : tie.InvT-loop
 Inv-loop out₀ numbers n i₀ out i = (i ≤ n) × (length out ≡ length out₀) × (put out i (drop i numbers) ≡ put out₀ 0 numbers)

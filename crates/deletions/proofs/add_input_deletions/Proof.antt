@@ -1,4 +1,4 @@
--- `picked::add_input_deletions` meets its contract. Assumes nothing.
+-- `deletions::add_input_deletions` meets its contract. Assumes nothing.
 use Prim.Native.Nat.{_+_, _-_}
 use mathlib.Core.Path.{_≡_, sym, ap, _∙_}
 use mathlib.Core.Bool.{true}
@@ -10,12 +10,14 @@ use Rattle.model.specs.File.{full}
 use Rattle.model.specs.Pick.{inputDeletions}
 use Rattle.answers.specs.Outcome.{outcomeOf}
 use Rattle.answers.specs.declared.Outcome.the-variants.{Done}
-use Rattle.picked.specs.Picked.{pickedOf, wellPicked, deletionRecord, roomIn, withDeletions, deletedBy}
-use Rattle.picked.specs.PickedLaws.{well-room, well-some, deletions-ill, deletions-short, deletions-done, deletions-length}
+use Rattle.picked.specs.Picked.{pickedOf, wellPicked}
+use Rattle.deletions.specs.Deletions.{deletionRecord, roomIn, withDeletions, deletedBy}
+use Rattle.picked.specs.PickedLaws.{well-room, well-some}
+use Rattle.deletions.specs.DeletionsLaws.{deletions-ill, deletions-short, deletions-done, deletions-length}
 use Rattle.picked.proofs.Shape.{shape}
 use borrow.Author.Needs.{needs}
-use Rattle.picked.proofs.add_input_deletions.Statement.{statement}
-use Rattle.picked.proofs.add_input_deletions.Tie as tie
+use Rattle.deletions.proofs.add_input_deletions.Statement.{statement}
+use Rattle.deletions.proofs.add_input_deletions.Tie as tie
 
 is-well-formed-requires : tie.Need-is-well-formed-requires
 is-well-formed-requires c κs = search needs

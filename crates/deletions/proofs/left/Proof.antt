@@ -1,9 +1,9 @@
--- `picked::left` meets its contract. Assumes nothing.
+-- `deletions::left` meets its contract. Assumes nothing.
 use mathlib.Core.Path.{refl}
 use Rattle.answers.specs.Outcome.{outcomeOf}
-use Rattle.picked.specs.Picked.{deletedBy}
-use Rattle.picked.proofs.left.Statement.{statement}
-use Rattle.picked.proofs.left.Tie as tie
+use Rattle.deletions.specs.Deletions.{deletedBy}
+use Rattle.deletions.proofs.left.Statement.{statement}
+use Rattle.deletions.proofs.left.Tie as tie
 
 returns : tie.Need-returns
 unfolding deletedBy outcomeOf

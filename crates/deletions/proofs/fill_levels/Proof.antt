@@ -1,4 +1,4 @@
--- `picked::fill_levels` meets its contract. The loop's invariant: what is filled, with what is left to fill after it, is the whole. Assumes nothing.
+-- `deletions::fill_levels` meets its contract. The loop's invariant: what is filled, with what is left to fill after it, is the whole. Assumes nothing.
 use Prim.Native.Nat.{ℕ, _+_, _-_, _≤_}
 use mathlib.Core.Path.{_≡_, refl, sym, ap, _∙_}
 use native.Mathlib.Omega.{arith}
@@ -7,8 +7,8 @@ use lib.ListN.{length, drop, set, replicate, length-set, length-replicate}
 use Rattle.lemmas.specs.ListLaws.{getD-same}
 use Rattle.lemmas.specs.Slices.{put}
 use Rattle.lemmas.specs.Merge.{lay-starts, lay-turn, lay-ended}
-use Rattle.picked.proofs.fill_levels.Statement.{statement}
-use Rattle.picked.proofs.fill_levels.Tie as tie
+use Rattle.deletions.proofs.fill_levels.Statement.{statement}
+use Rattle.deletions.proofs.fill_levels.Tie as tie
 
 abbrev Inv-loop : tie.InvT-loop
 Inv-loop out₀ at n level i₀ out i = (i ≤ n) × (length out ≡ length out₀) × (put out (at + i) (drop i (replicate n level)) ≡ put out₀ at (replicate n level))
