@@ -1,10 +1,10 @@
--- `questions::is_well_formed_memory` meets its contract. Assumes nothing.
+-- `bases::is_well_formed_memory` meets its contract. Assumes nothing.
 use mathlib.Core.Path.{sym, _∙_}
 use borrow.Author.Needs.{needs}
 use borrow.Author.Tests.{not-true, not-false}
-use Rattle.questions.specs.QuestionLaws.{memory-unsound, memory-some, memory-none}
-use Rattle.questions.proofs.is_well_formed_memory.Statement.{statement}
-use Rattle.questions.proofs.is_well_formed_memory.Tie as tie
+use Rattle.bases.specs.BaseLaws.{memory-unsound, memory-some, memory-none}
+use Rattle.bases.proofs.is_well_formed_memory.Statement.{statement}
+use Rattle.bases.proofs.is_well_formed_memory.Tie as tie
 
 is-sound-user-requires : tie.Need-is-sound-user-requires
 is-sound-user-requires c κs = search needs

@@ -1,9 +1,9 @@
--- `questions::nothing_asked` meets its contract. Assumes nothing.
+-- `bases::nothing_asked` meets its contract. Assumes nothing.
 use mathlib.Core.Path.{refl}
 use Rattle.keys.specs.Key.{userRecord, padded}
-use Rattle.questions.specs.Question.{askedRecord}
-use Rattle.questions.proofs.nothing_asked.Statement.{statement}
-use Rattle.questions.proofs.nothing_asked.Tie as tie
+use Rattle.bases.specs.Base.{askedRecord}
+use Rattle.bases.proofs.nothing_asked.Statement.{statement}
+use Rattle.bases.proofs.nothing_asked.Tie as tie
 
 returns : tie.Need-returns
 unfolding askedRecord userRecord padded

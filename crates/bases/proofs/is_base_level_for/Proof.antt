@@ -1,4 +1,4 @@
--- `questions::is_base_level_for` meets its contract. Assumes nothing.
+-- `bases::is_base_level_for` meets its contract. Assumes nothing.
 use mathlib.Core.Path.{_≡_, sym, ap, _∙_}
 use mathlib.Core.Bool.{true}
 use borrow.Author.Needs.{needs}
@@ -9,10 +9,10 @@ use Rattle.answers.specs.Outcome.{outcomeOf}
 use Rattle.answers.specs.declared.Outcome.the-variants.{Done}
 use Rattle.keys.specs.Key.{userOf}
 use Rattle.store.specs.Store.{wellStore}
-use Rattle.questions.specs.Question.{askedRecord, wellAsked, basedBy}
-use Rattle.questions.specs.QuestionLaws.{base-ill, base-bad, base-beyond, base-key, base-back, base-gives}
-use Rattle.questions.proofs.is_base_level_for.Statement.{statement}
-use Rattle.questions.proofs.is_base_level_for.Tie as tie
+use Rattle.bases.specs.Base.{askedRecord, wellAsked, basedBy}
+use Rattle.bases.specs.BaseLaws.{base-ill, base-bad, base-beyond, base-key, base-back, base-gives}
+use Rattle.bases.proofs.is_base_level_for.Statement.{statement}
+use Rattle.bases.proofs.is_base_level_for.Tie as tie
 
 is-well-formed-requires : tie.Need-is-well-formed-requires
 is-well-formed-requires c κs = search needs

@@ -1,10 +1,10 @@
--- `questions::goes_back` meets its contract. Assumes nothing.
+-- `bases::goes_back` meets its contract. Assumes nothing.
 use mathlib.Core.Path.{sym, _∙_}
 use borrow.Author.Needs.{needs}
 use Rattle.keys.specs.Key.{userOf}
-use Rattle.questions.specs.QuestionLaws.{before-asked, none-asked}
-use Rattle.questions.proofs.goes_back.Statement.{statement}
-use Rattle.questions.proofs.goes_back.Tie as tie
+use Rattle.bases.specs.BaseLaws.{before-asked, none-asked}
+use Rattle.bases.proofs.goes_back.Statement.{statement}
+use Rattle.bases.proofs.goes_back.Tie as tie
 
 user-key-is-before-requires : tie.Need-user-key-is-before-requires
 user-key-is-before-requires c κs = search needs

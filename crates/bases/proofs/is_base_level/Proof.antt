@@ -1,4 +1,4 @@
--- `questions::is_base_level` meets its contract. Assumes nothing.
+-- `bases::is_base_level` meets its contract. Assumes nothing.
 use Prim.Native.Nat.{ℕ}
 use mathlib.Core.Path.{sym, ap, _∙_}
 use mathlib.Core.Bool.{Bool, not}
@@ -12,9 +12,9 @@ use Rattle.levels.specs.LevelsLaws as levels
 use Rattle.store.specs.StoreLaws.{Shape, well-levels}
 use Rattle.store.proofs.Shape.{shape}
 use Rattle.ranges.specs.Ranges.{spanOf}
-use Rattle.questions.specs.QuestionLaws.{base-last, base-is}
-use Rattle.questions.proofs.is_base_level.Statement.{statement}
-use Rattle.questions.proofs.is_base_level.Tie as tie
+use Rattle.bases.specs.BaseLaws.{base-last, base-is}
+use Rattle.bases.proofs.is_base_level.Statement.{statement}
+use Rattle.bases.proofs.is_base_level.Tie as tie
 
 -- the lengths of the store's arrays
 shaped : (s : tie.Start) → Shape (s .args .s)

@@ -1,9 +1,9 @@
--- `questions::refuse` meets its contract. Assumes nothing.
+-- `bases::refuse` meets its contract. Assumes nothing.
 use mathlib.Core.Path.{refl}
 use Rattle.answers.specs.Outcome.{outcomeOf}
-use Rattle.questions.specs.Question.{basedBy}
-use Rattle.questions.proofs.refuse.Statement.{statement}
-use Rattle.questions.proofs.refuse.Tie as tie
+use Rattle.bases.specs.Base.{basedBy}
+use Rattle.bases.proofs.refuse.Statement.{statement}
+use Rattle.bases.proofs.refuse.Tie as tie
 
 returns : tie.Need-returns
 unfolding basedBy outcomeOf
