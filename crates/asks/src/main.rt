@@ -2,12 +2,12 @@
 ghost use Prim.Native.Nat.{_<_, _≤_};
 use answers::Counted;
 use answers::Outcome;
+use bases::Asked;
+use bases::Based;
 use finding::Found;
 use keys::FileNumber;
 use keys::Key;
 use keys::UserKey;
-use questions::Asked;
-use questions::Based;
 use questions::Leveled;
 use records::FileRecord;
 use store::Store;
@@ -277,7 +277,7 @@ fn ill_store() -> Store {
 // A base-level question with nothing asked before.
 fn base(level: usize, u: UserKey) {
     let s = three_files();
-    print_based(questions::is_base_level_for(s, level, questions::nothing_asked(), u));
+    print_based(bases::is_base_level_for(s, level, bases::nothing_asked(), u));
     print(b"\n");
 }
 
@@ -310,18 +310,18 @@ fn bases() {
 // The memory after an answer, and after a refusal.
 fn remembers() {
     let s = three_files();
-    let first = questions::is_base_level_for(s, 0, questions::nothing_asked(), user(b'e'));
+    let first = bases::is_base_level_for(s, 0, bases::nothing_asked(), user(b'e'));
     let asked = first.memory;
     print(b"e asked, then e:");
-    print_based(questions::is_base_level_for(s, 0, asked, user(b'e')));
+    print_based(bases::is_base_level_for(s, 0, asked, user(b'e')));
     print(b"\ne asked, then d:");
-    let second = questions::is_base_level_for(s, 0, asked, user(b'd'));
+    let second = bases::is_base_level_for(s, 0, asked, user(b'd'));
     print_based(second);
     let kept = second.memory;
     print(b"\nand then l:");
-    print_based(questions::is_base_level_for(s, 0, kept, user(b'l')));
+    print_based(bases::is_base_level_for(s, 0, kept, user(b'l')));
     print(b"\nand then d:");
-    print_based(questions::is_base_level_for(s, 0, kept, user(b'd')));
+    print_based(bases::is_base_level_for(s, 0, kept, user(b'd')));
     print(b"\n");
 }
 
@@ -330,7 +330,7 @@ fn bases_refused() {
     let s = three_files();
     let byte = user(b'a');
     print(b"a memory of no key with a byte:");
-    print_based(questions::is_base_level_for(
+    print_based(bases::is_base_level_for(
         s,
         0,
         Asked {
@@ -341,7 +341,7 @@ fn bases_refused() {
     ));
     let none = no_user();
     print(b"\na memory of a key of no bytes:");
-    print_based(questions::is_base_level_for(
+    print_based(bases::is_base_level_for(
         s,
         0,
         Asked {
@@ -351,12 +351,7 @@ fn bases_refused() {
         user(b'e'),
     ));
     print(b"\na store whose count is wrong, level 7:");
-    print_based(questions::is_base_level_for(
-        ill_store(),
-        7,
-        questions::nothing_asked(),
-        user(b'e'),
-    ));
+    print_based(bases::is_base_level_for(ill_store(), 7, bases::nothing_asked(), user(b'e')));
     print(b"\n");
 }
 

@@ -542,12 +542,12 @@ fn bench_search(files: u64, repeats: u64) -> u64 {
 // A base-level question, so many times.
 fn bench_base(files: u64, repeats: u64) -> u64 {
     let s = filled(files, SMALL);
-    let mut memory = questions::nothing_asked();
+    let mut memory = bases::nothing_asked();
     let mut done: u64 = 0;
     let mut k: u64 = 0;
     while k < repeats {
         let u = keys::user_key(cam_key(rising(k, repeats)));
-        let b = questions::is_base_level_for(s, 1, memory, u);
+        let b = bases::is_base_level_for(s, 1, memory, u);
         let o = b.outcome;
         memory = b.memory;
         if is_done(o) {
@@ -628,7 +628,7 @@ fn bases(s: Store, repeats: u64) -> u64
     let mut k: u64 = 0;
     while k < repeats {
         let u = keys::user_key(cam_key(rising(k, repeats)));
-        if !questions::is_base_level(s, 1, u) {
+        if !bases::is_base_level(s, 1, u) {
             others = (others + 1) % 1000000000;
         }
         k += 1;

@@ -6,12 +6,12 @@ use answers::Outcome;
 use answers::Told;
 use cutter::Cut;
 use cutter::Cutter;
+use deletions::Deleted;
 use edits::Deletion;
 use edits::Edit;
 use keys::FileNumber;
 use keys::Key;
 use picked::Cause;
-use picked::Deleted;
 use picked::Picked;
 use records::FileRecord;
 
@@ -236,15 +236,19 @@ fn deletions_by_room(p: Picked) {
     e.deletion_count = 253;
     print_deleted(
         b"into room for three:",
-        picked::add_input_deletions(p, e),
+        deletions::add_input_deletions(p, e),
         0,
     );
     e.deletion_count = 254;
-    print_deleted(b"into room for two:", picked::add_input_deletions(p, e), 0);
+    print_deleted(
+        b"into room for two:",
+        deletions::add_input_deletions(p, e),
+        0,
+    );
     e.deletion_count = 257;
     print_deleted(
         b"into an edit with 257:",
-        picked::add_input_deletions(p, e),
+        deletions::add_input_deletions(p, e),
         0,
     );
 }
@@ -267,19 +271,19 @@ fn deletions() {
     let p = three_inputs();
     print_deleted(
         b"two first inputs and a second:",
-        picked::add_input_deletions(p, Edit::empty()),
+        deletions::add_input_deletions(p, Edit::empty()),
         3,
     );
     let two = two_deletions();
     print_deleted(
         b"after two of the edit's own:",
-        picked::add_input_deletions(p, two),
+        deletions::add_input_deletions(p, two),
         5,
     );
     deletions_by_room(p);
     print_deleted(
         b"not well-formed:",
-        picked::add_input_deletions(counted(p, 3, 1, 0), two),
+        deletions::add_input_deletions(counted(p, 3, 1, 0), two),
         2,
     );
 }
@@ -291,7 +295,7 @@ fn print_columns(what: &[u8], p: Picked, levels: usize, numbers: usize)
     print(what);
     let mut ls = [9usize; 4];
     let mut ns = [99u64; 4];
-    let r = picked::input_deletions(p, &mut ls[0..levels], &mut ns[0..numbers]);
+    let r = deletions::input_deletions(p, &mut ls[0..levels], &mut ns[0..numbers]);
     match r {
         Counted::Filled(n) => {
             print(b" filled ");

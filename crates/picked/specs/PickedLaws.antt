@@ -3,33 +3,27 @@ use Prim.Native.Nat.{ℕ, zero, suc, _+_, _-_, _*_, _^_, _≤_, _<_, min}
 use mathlib.Core.Path.{_≡_, refl, sym, ap, _∙_, subst}
 use mathlib.Core.Logic.{_↔_}
 use mathlib.Core.Bool.{Bool, true, false, not, _&&_, cond}
-use mathlib.Core.List.{List, [], _∷_, _++_, map, map-map, map-append, append-nil, append-assoc, List·Memᴰ as In, List·Memᴰ·head as here, List·Memᴰ·tail as there, List·Memᴰ·not-nil as not-nil}
+use mathlib.Core.List.{List, [], _∷_, _++_, map, append-nil, List·Memᴰ as In, List·Memᴰ·head as here, List·Memᴰ·tail as there, List·Memᴰ·not-nil as not-nil}
 use native.Mathlib.Omega.{arith}
 use native.Mathlib.Nat.{add-zero, zero-add}
-use native.Mathlib.Numerals.{add-one}
 use lib.Dec.{eqb, leb, ltb}
-use borrow.Author.Tests.{leb-true, leb-false, le-leb, lt-leb, eqb-false, eq-eqb, ne-eqb, lt-ltb, le-ltb, not-false}
-use lib.ListN.{length, getD, take, drop, replicate, length-map, length-append}
-use lib.Seq.{slice, length-take-le, take-at, drop-drop}
+use borrow.Author.Tests.{leb-true, leb-false, le-leb, lt-leb, eqb-false, eq-eqb, ne-eqb, not-false}
+use lib.ListN.{length, getD, take, drop, length-append}
+use lib.Seq.{slice, drop-drop}
 use Rattle.lemmas.specs.Order.{clash}
 use Rattle.lemmas.specs.Lists.{all, chain, join, sum, distinct, isEmpty}
-use Rattle.lemmas.specs.ListLaws.{and-left, and-right, and-true, both, all-in, map-same}
+use Rattle.lemmas.specs.ListLaws.{and-left, and-right, and-true, both, all-in}
 use Rattle.lemmas.specs.Distinct.{same-test}
 use Rattle.lemmas.specs.Maps.{all-join}
 use Rattle.lemmas.specs.Merge as merge
 use Rattle.lemmas.specs.Each.{Each, each-slice}
-use Rattle.lemmas.specs.Slices.{put, put-front, parts, take-drop, run-join, length-view}
-use Rattle.model.specs.Answer.{Answer, gives, refused, Refusal, _⇒_, firstOf, onAnswer, lent}
+use Rattle.lemmas.specs.Slices.{put, parts, take-drop, length-view}
+use Rattle.model.specs.Answer.{Answer, gives, refused, Refusal, _⇒_, firstOf}
 use Rattle.model.specs.File.{File, full, total, numbers, inOrder, levelwise, goodFile}
-use Rattle.model.specs.File as file
-use Rattle.model.specs.Edit as model-edit
 use Rattle.model.specs.Pick as model
-use Rattle.model.specs.Pick.{badMaximum, goodLevel, goodPicked, isManual, trivial, inputDeletions}
+use Rattle.model.specs.Pick.{badMaximum, goodLevel, goodPicked, isManual, trivial}
 use Rattle.model.specs.PickedLaws.{goodLevel-says, GoodPicked, goodPicked-says}
 use Rattle.model.specs.Calls as calls
-use Rattle.answers.specs.declared.Counted.{Counted}
-use Rattle.answers.specs.declared.Counted.the-variants as counted
-use Rattle.answers.specs.Outcome.{countedOf, filling}
 use Rattle.records.specs.Record.{fileOf, soundRecord, wellRecord, isBlank}
 use Rattle.records.specs.RecordLaws.{AllShaped, AllWords, well-list, well-list-is, total-bound, column-run}
 use Rattle.records.specs.Run.{run}
@@ -37,12 +31,10 @@ use Rattle.records.specs.declared.FileRecord.{FileRecord}
 use Rattle.levels.specs.Levels.{levelsOf, laidOut, countsOf, soundLevels, arranged}
 use Rattle.levels.specs.LevelsLaws as levels
 use Rattle.levels.specs.LevelsLaws.{arranged-is, arranged-room}
-use Rattle.edits.specs.declared.Edit.{Edit}
-use Rattle.edits.specs.Edit.{entries, deletionOf, editOf}
 use Rattle.picked.specs.declared.Cause.{Cause}
 use Rattle.picked.specs.declared.Cause.the-variants.{Size, Manual}
 use Rattle.picked.specs.declared.Picked.{Picked}
-use Rattle.picked.specs.Picked.{causeOf, causeRecord, countsIn, listsIn, pickedOf, threeLists, pickedRecord, soundPicked, wellPicked, onPicked, framed, asLevels, distinctRuns, distinctLists, deletionAt, deletionRecord, roomIn, withDeletions, deletedBy, naming, Names}
+use Rattle.picked.specs.Picked.{causeOf, causeRecord, countsIn, listsIn, pickedOf, threeLists, pickedRecord, soundPicked, wellPicked, onPicked, framed, asLevels, distinctRuns, distinctLists}
 
 -- ---- causes
 
@@ -390,11 +382,6 @@ lent-slice from to xs h =
     let m : from + (to - from) ≡ to = omega arith in
     take-drop from (to - from) xs ∙ ap (λ (n : ℕ). drop from (take n xs)) m
 
--- the same, as they are lent from there
-pub column-lent : (n from to : ℕ) (files : List FileRecord) (d column : List ℕ) → n ≤ length files → from ≤ to → to ≤ n → column ≡ put d 0 (numbers (run 0 n files))
-    → take (to - from) (drop from column) ≡ numbers (run from to files)
-column-lent n from to files d column q h k e = lent-slice from to column h ∙ column-run n from to files d column q h k e
-
 -- three lists, none of which has a number twice: the first has, the second has, neither has
 module _ (files : List FileRecord) (a b c : ℕ) where
   abbrev lists : List (List File)
@@ -519,170 +506,3 @@ module _ (c : Picked) where
     trivial-is e =
         let r = well-room c h in
         rw (e, first-length c q r, empty-is (pickedOf c .second), second-length c q r, grand-bytes)
-
--- ---- the deletions of the inputs
-
-module _ (c : Picked) (room : ℕ) where
-  abbrev deleting : model.Picked → Answer (List model-edit.Deletion)
-  deleting p = calls.deletionsOf full p room
-
-  pub deletions-ill : wellPicked c ≡ false → onPicked c deleting ≡ refused 14
-  unfolding calls.deletionsOf
-  deletions-ill h = asked-ill c (λ p. (ltb room (length (inputDeletions p)) ⇒ 13) ∷ []) inputDeletions h
-
-  module _ (h : wellPicked c ≡ true) (q : length (c .files) ≡ 256) where
-    -- one for each input
-    pub deletions-length : length (inputDeletions (pickedOf c)) ≡ c .first + c .second
-    unfolding inputDeletions
-    deletions-length =
-        let p = pickedOf c in
-        let r = well-room c h in
-        let at : ℕ → File → model-edit.Deletion = λ l f. record { level = l; number = f .number } in
-        omega (
-          arith,
-          length-append (map (at (p .level)) (p .first)) (map (at (suc (p .level))) (p .second)),
-          length-map (p .first) (at (p .level)),
-          length-map (p .second) (at (suc (p .level))),
-          first-length c q r,
-          second-length c q r,
-        )
-
-    passing : onPicked c deleting ≡ firstOf ((ltb room (length (inputDeletions (pickedOf c))) ⇒ 13) ∷ []) (inputDeletions (pickedOf c))
-    unfolding calls.deletionsOf
-    passing = asked-well c (λ p. (ltb room (length (inputDeletions p)) ⇒ 13) ∷ []) inputDeletions h
-
-    -- more than there is room for
-    pub deletions-short : room < c .first + c .second → onPicked c deleting ≡ refused 13
-    unfolding firstOf _⇒_
-    deletions-short k = passing ∙ rw (lt-ltb room (length (inputDeletions (pickedOf c))) (omega (arith, deletions-length)))
-
-    pub deletions-done : c .first + c .second ≤ room → onPicked c deleting ≡ gives (inputDeletions (pickedOf c))
-    unfolding firstOf _⇒_
-    deletions-done k = passing ∙ rw (le-ltb room (length (inputDeletions (pickedOf c))) (omega (arith, deletions-length)))
-
--- as records: the numbers of the first inputs at the level, then those of the second inputs one level deeper
-pub deletion-records : (c : Picked) → map deletionRecord (inputDeletions (pickedOf c))
-    ≡ map (deletionAt (c .level)) (numbers (run 0 (c .first) (c .files))) ++ map (deletionAt (c .level + 1)) (numbers (run (c .first) (c .first + c .second) (c .files)))
-unfolding inputDeletions pickedOf deletionRecord deletionAt numbers
-deletion-records c =
-    let p = pickedOf c in
-    let at : ℕ → File → model-edit.Deletion = λ l f. record { level = l; number = f .number } in
-    let number : File → ℕ = λ f. f .number in
-    let named : (l : ℕ) (fs : List File) → map deletionRecord (map (at l) fs) ≡ map (deletionAt l) (map number fs) = λ l fs. map-map deletionRecord (at l) fs ∙ sym (map-map (deletionAt l) number fs) in
-    map-append deletionRecord (map (at (c .level)) (p .first)) (map (at (suc (c .level))) (p .second))
-    ∙ rw (named (c .level) (p .first), named (suc (c .level)) (p .second), first-run c, second-run c, add-one)
-
--- the deletions of a run, one for each file
-pub named-length : (l from to : ℕ) (files : List FileRecord) → to ≤ length files → length (map (deletionAt l) (numbers (run from to files))) ≡ to - from
-unfolding numbers run
-named-length l from to files h =
-    let number : File → ℕ = λ f. f .number in
-    let fs = map fileOf (slice from to files) in
-    length-map (map number fs) (deletionAt l) ∙ length-map fs number ∙ length-view fileOf from to files h
-
--- a list laid over another: all up to its end
-put-upto : {A : Type 0} (d : List A) (at : ℕ) (s : List A) → at ≤ length d → take (at + length s) (put d at s) ≡ take at d ++ s
-unfolding put
-put-upto d at s h =
-    let k : length (take at d ++ s) ≡ at + length s = length-append (take at d) s ∙ ap (λ (n : ℕ). n + length s) (length-take-le at d h) in
-    rw (← append-assoc (take at d) s (drop (at + length s) d)) (take-at (take at d ++ s) (drop (at + length s) d) (at + length s) k)
-
--- the records of deletions stand for them
-named-back : (ds : List model-edit.Deletion) → map deletionOf (map deletionRecord ds) ≡ ds
-unfolding deletionOf deletionRecord
-named-back ds = map-map deletionOf deletionRecord ds ∙ map-same ds
-
--- an edit with deletions after its own, within its room: its deletions are followed by those, and nothing else of it changes
-module _ (e : Edit) (q : length (e .deletions) ≡ 256) (ds : List model-edit.Deletion) (h : e .«deletion_count» + length ds ≤ 256) where
-  pub deletions-follow : editOf (withDeletions e (map deletionRecord ds)) .deletions ≡ editOf e .deletions ++ ds
-  unfolding editOf withDeletions entries
-  deletions-follow =
-      let n = e .«deletion_count» in
-      let rs = map deletionRecord ds in
-      let size : length rs ≡ length ds = length-map ds deletionRecord in
-      let k : n + length rs - 256 ≡ 0 = omega arith in
-      let z : n - 256 ≡ 0 = omega arith in
-      let front : take (n + length rs) (put (e .deletions) n rs) ≡ take n (e .deletions) ++ rs = put-upto (e .deletions) n rs (omega arith) in
-      simp (k, z, append-nil) (rw front (map-append deletionOf (take n (e .deletions)) rs ∙ ap (λ (xs : List model-edit.Deletion). map deletionOf (take n (e .deletions)) ++ xs) (named-back ds)))
-
--- an edit that took the deletions of a picked answer's inputs: its own deletions, then exactly both input lists in order; nothing else of it changed
-pub inputs-added : (c : Picked) (e : Edit) → length (c .files) ≡ 256 → length (e .deletions) ≡ 256 → wellPicked c ≡ true → c .first + c .second ≤ roomIn e
-    → editOf (deletedBy e (onPicked c (λ p. calls.deletionsOf full p (roomIn e))) .edit)
-    ≡ record { pointers = editOf e .pointers; deletions = editOf e .deletions ++ inputDeletions (pickedOf c); additions = editOf e .additions; log = editOf e .log }
-unfolding deletedBy roomIn full editOf withDeletions
-inputs-added c e q l h k =
-    let ds = inputDeletions (pickedOf c) in
-    let room : e .«deletion_count» + length ds ≤ 256 = omega (arith, deletions-length c (roomIn e) h q, well-some c h q) in
-    let f = deletions-follow e l ds room in
-    rw (deletions-done c (256 - e .«deletion_count») h q k) (λ i. record { pointers = editOf e .pointers; deletions = f i; additions = editOf e .additions; log = editOf e .log })
-
--- ---- the deletions of the inputs in two columns
-
--- one number for each item
-map-one : {A B : Type 0} (b : B) (xs : List A) → map (λ x. b) xs ≡ replicate (length xs) b
-map-one b [] = refl
-map-one b (x ∷ xs) = ap (λ (r : List _). b ∷ r) (map-one b xs)
-
--- their levels: the level for each first input, one level deeper for each second
-pub levels-named : (c : Picked) → length (c .files) ≡ 256 → wellPicked c ≡ true
-    → map (λ (d : model-edit.Deletion). d .level) (inputDeletions (pickedOf c)) ≡ replicate (c .first) (c .level) ++ replicate (c .second) (c .level + 1)
-unfolding inputDeletions pickedOf
-levels-named c q h =
-    let p = pickedOf c in
-    let r = well-room c h in
-    let at : ℕ → File → model-edit.Deletion = λ l f. record { level = l; number = f .number } in
-    let level : model-edit.Deletion → ℕ = λ d. d .level in
-    map-append level (map (at (c .level)) (p .first)) (map (at (suc (c .level))) (p .second))
-    ∙ rw (map-map level (at (c .level)) (p .first), map-map level (at (suc (c .level))) (p .second), map-one (c .level) (p .first), map-one (suc (c .level)) (p .second), first-length c q r, second-length c q r, add-one)
-
--- their numbers: those of the inputs, as they stand
-pub numbers-named : (c : Picked) → length (c .files) ≡ 256 → wellPicked c ≡ true
-    → map (λ (d : model-edit.Deletion). d .number) (inputDeletions (pickedOf c)) ≡ numbers (run 0 (c .first + c .second) (c .files))
-unfolding inputDeletions pickedOf numbers run
-numbers-named c q h =
-    let p = pickedOf c in
-    let r = well-room c h in
-    let at : ℕ → File → model-edit.Deletion = λ l f. record { level = l; number = f .number } in
-    let number : model-edit.Deletion → ℕ = λ d. d .number in
-    let own : File → ℕ = λ f. f .number in
-    let a = slice 0 (c .first) (c .files) in
-    let b = slice (c .first) (c .first + c .second) (c .files) in
-    map-append number (map (at (c .level)) (p .first)) (map (at (suc (c .level))) (p .second))
-    ∙ rw (map-map number (at (c .level)) (p .first), map-map number (at (suc (c .level))) (p .second), first-run c, second-run c)
-    (sym (map-append own (map fileOf a) (map fileOf b)) ∙ ap (map own) (sym (map-append fileOf a b)) ∙ ap (λ (rs : List FileRecord). map own (map fileOf rs)) (sym (run-join 0 (c .first) (c .first + c .second) (c .files) (omega arith) (omega arith) (omega arith))))
-
-module _ (c : Picked) (levels numbers : List ℕ) where
-  abbrev room : ℕ
-  room = min (length levels) (length numbers)
-
-  -- a refusal leaves both columns as they were
-  pub names-refused : (n : ℕ) → naming c room ≡ refused n → Names c levels numbers (counted.Refused n) levels numbers
-  unfolding countedOf filling onAnswer lent
-  names-refused n e = record { answer = rw e; levels-after = rw e; numbers-after = rw e }
-
-  -- else they are filled from the front
-  pub names-done : length (c .files) ≡ 256 → wellPicked c ≡ true → c .first + c .second ≤ room → (levels′ numbers′ : List ℕ)
-      → levels′ ≡ put levels 0 (replicate (c .first) (c .level) ++ replicate (c .second) (c .level + 1)) → numbers′ ≡ put numbers 0 (file.numbers (run 0 (c .first + c .second) (c .files)))
-      → Names c levels numbers (counted.Filled (c .first + c .second)) levels′ numbers′
-  unfolding countedOf filling onAnswer lent naming
-  names-done q h k levels′ numbers′ l n =
-      let e = deletions-done c room h q k in
-      let ds = inputDeletions (pickedOf c) in
-      record {
-        answer = rw e (ap gives (sym (deletions-length c room h q)));
-        levels-after = rw e (l ∙ ap (put levels 0) (sym (levels-named c q h)) ∙ put-front levels (map (λ (d : model-edit.Deletion). d .level) ds));
-        numbers-after = rw e (n ∙ ap (put numbers 0) (sym (numbers-named c q h)) ∙ put-front numbers (map (λ (d : model-edit.Deletion). d .number) ds));
-      }
-
--- one answer has one form
-counted-one : (s t : Counted) → countedOf s ≡ countedOf t → s ≡ t
-unfolding countedOf
-counted-one (counted.Filled n) (counted.Filled m) e = let z : n ≡ m = cc in ap counted.Filled z
-counted-one (counted.Filled n) (counted.Refused m) e = let z : true ≡ false = cc in clash refl z
-counted-one (counted.Refused n) (counted.Filled m) e = let z : true ≡ false = cc in clash refl z
-counted-one (counted.Refused n) (counted.Refused m) e = let z : n ≡ m = cc in ap counted.Refused z
-
--- any two outcomes of a call that names the inputs in lent columns are one
-pub names-one : (c : Picked) (levels numbers : List ℕ) (s t : Counted) (l l′ n n′ : List ℕ) → Names c levels numbers s l n → Names c levels numbers t l′ n′ → (s ≡ t) × (l ≡ l′) × (n ≡ n′)
-names-one c levels numbers s t l l′ n n′ p q =
-    (counted-one s t (p .answer ∙ sym (q .answer)), p .levels-after ∙ sym (q .levels-after), p .numbers-after ∙ sym (q .numbers-after))

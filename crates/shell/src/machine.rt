@@ -1,8 +1,8 @@
 // What a script works on.
+use bases::Asked;
 use cutter::Cutter;
 use picked::Cause;
 use picked::Picked;
-use questions::Asked;
 use store::Store;
 
 // The store, the maximum file size that picks take, and the last pick, if any, with the memories of the cutter and of base-level questions.
@@ -35,7 +35,7 @@ pub(crate) fn fresh(maximum: u64) -> Machine {
     let s = store::fresh_store();
     let none = no_pick();
     let cutter = cutter::fresh_cutter();
-    let asked = questions::nothing_asked();
+    let asked = bases::nothing_asked();
     Machine {
         store: s,
         maximum: maximum,

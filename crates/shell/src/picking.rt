@@ -7,6 +7,7 @@ use crate::replies::Reply;
 use crate::texts;
 use answers::Outcome;
 use answers::Told;
+use bases::Asked;
 use cutter::Cutter;
 use edits::Deletion;
 use edits::Edit;
@@ -15,7 +16,6 @@ use keys::UserKey;
 use picked::Cause;
 use picked::Pick;
 use picked::Picked;
-use questions::Asked;
 use records::FileRecord;
 use store::Pointer;
 use store::Store;
@@ -127,7 +127,7 @@ fn put_pointer(out: &mut [u8], at: usize, pointers: [Pointer; 7], level: usize) 
 
 // The rest of a pick's line: the pointer, and the deletions of its inputs.
 fn put_end(out: &mut [u8], start: usize, c: Picked, pointers: [Pointer; 7]) -> usize {
-    let d = picked::add_input_deletions(c, Edit::empty());
+    let d = deletions::add_input_deletions(c, Edit::empty());
     let e = d.edit;
     let deletions = e.deletions;
     let mut at = put_pointer(out, start, pointers, c.level);
@@ -162,7 +162,7 @@ fn with_pick(maximum: u64, p: Pick) -> Machine {
     let pointers = s.pointers;
     print_pick(c, pointers);
     let cutter = cutter::fresh_cutter();
-    let asked = questions::nothing_asked();
+    let asked = bases::nothing_asked();
     Machine {
         store: s,
         maximum: maximum,
@@ -370,7 +370,7 @@ fn base_for(
     out: &mut [u8],
     start: usize,
 ) -> BaseAsked {
-    let r = questions::is_base_level_for(s, level, m, u);
+    let r = bases::is_base_level_for(s, level, m, u);
     let o = r.outcome;
     let memory = r.memory;
     let at = put_blank(out, start);
