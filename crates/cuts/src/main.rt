@@ -385,7 +385,7 @@ fn ask(what: &[u8], p: Picked, m: Cutter, k: Key) -> Cutter {
     print(what);
     print_cut(cutter::step(p, m, k));
     print(b"; lent:");
-    let s = cutter::stopped(p, m, k);
+    let s = stopping::stopped(p, m, k);
     let told = s.told;
     print_told(told);
     let after = s.memory;

@@ -1,18 +1,16 @@
 -- What the cutter's memory by value stands for, and what a step gives. Assumes nothing.
 use Prim.Native.Nat.{ℕ, _+_}
-use mathlib.Core.Path.{_≡_}
 use mathlib.Core.Bool.{Bool, true, false, cond}
 use mathlib.Core.List.{List}
 use lib.Dec.{ltb}
 use lib.ListN.{take, drop}
-use Rattle.model.specs.Answer.{Answer, gives, refused, onAnswer}
+use Rattle.model.specs.Answer.{Answer, gives, refused}
 use Rattle.model.specs.Key as model-key
 use Rattle.model.specs.File.{File, full, total}
 use Rattle.model.specs.Question as model
 use Rattle.model.specs.Question.{passed}
 use Rattle.model.specs.Calls as calls
-use Rattle.answers.specs.declared.Told.{Told}
-use Rattle.answers.specs.Outcome.{outcomeOf, toldOf}
+use Rattle.answers.specs.Outcome.{outcomeOf}
 use Rattle.keys.specs.Key.{keyOf}
 use Rattle.keys.specs.declared.Key.{Key}
 use Rattle.picked.specs.declared.Picked.{Picked}
@@ -41,15 +39,6 @@ stopping c m k = onPicked c (λ p. calls.shouldStop full p (cutterOf m) (keyOf k
 unfoldable pub cutBy : Cutter → Answer model.Cut → Cut
 cutBy m (gives x) = record { outcome = outcomeOf (gives x); cut = x .answer; memory = cutterRecord (x .memory) }
 cutBy m (refused n) = record { outcome = outcomeOf {A = model.Cut} (refused n); cut = false; memory = m }
-
--- the answer alone
-unfoldable pub answerOf : Answer model.Cut → Answer Bool
-answerOf a = onAnswer (λ (x : model.Cut). x .answer) a
-
--- what a call leaves: the answer, and the memory after the key, or the very same where it is refused
-pub record Stops (c : Picked) (m : Cutter) (k : Key) (told : Told) (after : Cutter) : Type 0 where
-  pub answer : toldOf told ≡ answerOf (stopping c m k)
-  pub memory : after ≡ cutBy m (stopping c m k) .memory
 
 -- the place after a key and the bytes that it passes: from this place on, the grandparents at the front whose largest is before it
 unfoldable pub passingFrom : ℕ → List File → model-key.Key → Passing

@@ -9,14 +9,13 @@ use lib.Dec.{eqb, leb}
 use borrow.Author.Tests.{le-leb, leb-true, eqb-true, eq-eqb, ne-eqb}
 use lib.ListN.{length, take, drop}
 use lib.Seq.{slice, drop-drop, take-take}
-use Rattle.lemmas.specs.Order.{clash}
 use Rattle.lemmas.specs.Lists.{any, sum, upFrom}
 use Rattle.lemmas.specs.ListLaws.{and-left, and-right, upFrom-in, upFrom-any}
 use Rattle.lemmas.specs.UpFrom.{upFrom-snoc}
 use Rattle.lemmas.specs.Maps.{any-same, any-append}
 use Rattle.lemmas.specs.Merge.{all-take, all-drop}
 use Rattle.lemmas.specs.Slices.{take-drop, take-map, drop-map, sum-take}
-use Rattle.model.specs.Answer.{Answer, gives, refused, _⇒_, firstOf, onAnswer}
+use Rattle.model.specs.Answer.{Answer, gives, refused, _⇒_, firstOf}
 use Rattle.model.specs.Key as model-key
 use Rattle.model.specs.Key.{before, goodKey}
 use Rattle.model.specs.File.{File, full, total, goodFile}
@@ -26,10 +25,7 @@ use Rattle.model.specs.Question as model
 use Rattle.model.specs.Question.{passed, cutStep}
 use Rattle.model.specs.Calls as calls
 use Rattle.model.specs.Calls.{counts-up-to, goodCutter}
-use Rattle.answers.specs.declared.Outcome.the-variants.{Done, Refused}
-use Rattle.answers.specs.declared.Told.{Told}
-use Rattle.answers.specs.declared.Told.the-variants as told
-use Rattle.answers.specs.Outcome.{outcomeOf, toldOf}
+use Rattle.answers.specs.Outcome.{outcomeOf}
 use Rattle.keys.specs.Key.{keyOf}
 use Rattle.keys.specs.declared.Key.{Key}
 use Rattle.records.specs.Record.{fileOf}
@@ -42,7 +38,7 @@ use Rattle.picked.specs.PickedLaws as picked
 use Rattle.cutter.specs.declared.Cutter.{Cutter}
 use Rattle.cutter.specs.declared.Cut.{Cut}
 use Rattle.cutter.specs.declared.Passing.{Passing}
-use Rattle.cutter.specs.Cutter.{cutterOf, cutterRecord, goodMemory, stopping, cutBy, answerOf, Stops, passingFrom, countedWith, cutAfter}
+use Rattle.cutter.specs.Cutter.{cutterOf, cutterRecord, goodMemory, stopping, cutBy, passingFrom, countedWith, cutAfter}
 
 -- ---- runs
 
@@ -272,45 +268,3 @@ step-keeps c m k g = by-picked (wellPicked c) refl
     by-picked : (t : Bool) → wellPicked c ≡ t → goodMemory c (cutBy m (stopping c m k) .memory) ≡ true
     by-picked true h = by-key h (goodKey (full .longest) (keyOf k)) refl
     by-picked false h = rw (stop-ill c m k h) g
-
--- ---- the answer by yes or no
-
-module _ (c : Picked) (m : Cutter) (k : Key) (r : Cut) (e : r ≡ cutBy m (stopping c m k)) where
-  -- the memory is the step's
-  after : r .memory ≡ cutBy m (stopping c m k) .memory
-  after = ap (λ (x : Cut). x .memory) e
-
-  -- a step that is refused
-  pub stops-refused : (n : ℕ) → r .outcome ≡ Refused n → Stops c m k (told.Refused n) (r .memory)
-  unfolding toldOf answerOf onAnswer cutBy outcomeOf
-  stops-refused n o = record { answer = go (stopping c m k) (sym (ap (λ (x : Cut). x .outcome) e) ∙ o); memory = after }
-    where
-      go : (a : Answer model.Cut) → cutBy m a .outcome ≡ Refused n → _≡_ {A = Answer Bool} (refused n) (onAnswer (λ (x : model.Cut). x .answer) a)
-      go (gives x) q = let z : true ≡ false = cc in clash refl z
-      go (refused j) q = let z : n ≡ j = cc in ap refused z
-
-  -- one that is done
-  pub stops-done : (t : Told) → r .outcome ≡ Done → toldOf t ≡ gives (r .cut) → Stops c m k t (r .memory)
-  unfolding answerOf onAnswer cutBy outcomeOf
-  stops-done t o q = record { answer = q ∙ go (stopping c m k) (sym (ap (λ (x : Cut). x .outcome) e) ∙ o) (ap (λ (x : Cut). x .cut) e); memory = after }
-    where
-      go : (a : Answer model.Cut) → cutBy m a .outcome ≡ Done → r .cut ≡ cutBy m a .cut → gives (r .cut) ≡ onAnswer (λ (x : model.Cut). x .answer) a
-      go (gives x) q h = ap gives h
-      go (refused j) q h = let z : true ≡ false = cc in clash refl z
-
--- one answer has one form
-told-one : (s t : Told) → toldOf s ≡ toldOf t → s ≡ t
-unfolding toldOf
-told-one told.Yes told.Yes e = refl
-told-one told.Yes told.No e = let z : true ≡ false = cc in clash refl z
-told-one told.Yes (told.Refused n) e = let z : true ≡ false = cc in clash refl z
-told-one told.No told.Yes e = let z : true ≡ false = cc in clash refl z
-told-one told.No told.No e = refl
-told-one told.No (told.Refused n) e = let z : true ≡ false = cc in clash refl z
-told-one (told.Refused n) told.Yes e = let z : true ≡ false = cc in clash refl z
-told-one (told.Refused n) told.No e = let z : true ≡ false = cc in clash refl z
-told-one (told.Refused n) (told.Refused m) e = let z : n ≡ m = cc in ap told.Refused z
-
--- any two outcomes of a call on lent memory are one
-pub stops-one : (c : Picked) (m : Cutter) (k : Key) (s t : Told) (a b : Cutter) → Stops c m k s a → Stops c m k t b → (s ≡ t) × (a ≡ b)
-stops-one c m k s t a b p q = (told-one s t (p .answer ∙ sym (q .answer)), p .memory ∙ sym (q .memory))

@@ -5,7 +5,6 @@ use mathlib.Core.List.{List, [], _++_}
 use lib.Dec.{ltb, leb}
 use lib.ListN.{length, take, drop, replicate}
 use Rattle.lemmas.specs.Lists.{all}
-use Rattle.model.specs.Key as model
 use Rattle.keys.specs.declared.Key.{Key}
 use Rattle.keys.specs.declared.UserKey.{UserKey}
 -- a zero byte, for the crates above

@@ -10,7 +10,6 @@ use Rattle.lemmas.specs.Lists.{sort, join, upFrom}
 use Rattle.lemmas.specs.ListLaws.{sort-in, sort-length}
 use Rattle.lemmas.specs.Little.{number, bytes, bytes-length, bytes-number}
 use Rattle.lemmas.specs.Laying.{map-places}
-use Rattle.model.specs.File as model
 use Rattle.model.specs.File.{File, State, full, level, goodPointer, maxCounter, maxSize}
 use Rattle.model.specs.Formed.{WF}
 use Rattle.model.specs.Snapshot.{byNumber, writeKey, writeFile, Entry, entries, writeEntry, section, writeLevel, fiveOf, encode, placed}

@@ -10,8 +10,6 @@ use Rattle.scores.specs.Scores.{scoresBy, times}
 use Rattle.scores.specs.ScoresLaws.{compares, top-fits, best-here, best-kept, best-ended}
 use Rattle.scores.proofs.best_level.Statement.{statement}
 use Rattle.scores.proofs.best_level.Tie as tie
-use Rattle.scores.proofs.best_level.Reads as reads
-use Rattle.scores.proofs.best_level.Lts as lts
 
 abbrev Inv-loop : tie.InvT-loop
 Inv-loop amounts best₀ level₀ best level = (best < level) × (level ≤ 6)

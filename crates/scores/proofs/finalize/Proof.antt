@@ -16,11 +16,6 @@ use Rattle.scores.specs.Scores.{scoreAt, scoresBy, scoredAs}
 use Rattle.scores.specs.ScoresLaws.{amountsOf, amounts-best, amounts-scored, amounts-bounded, amounts-lossless, level-below, store-amounts}
 use Rattle.scores.proofs.finalize.Statement.{statement}
 use Rattle.scores.proofs.finalize.Tie as tie
-use Rattle.scores.proofs.finalize.Reads as reads
-use Rattle.scores.proofs.finalize.Lts as lts
-use Rattle.scores.proofs.best_level.Reads as best-level-reads
-use Rattle.scores.proofs.level_bytes.Reads as level-bytes-reads
-use Rattle.scores.proofs.scored_at.Reads as scored-at-reads
 
 -- the amounts are those of the state
 amounts-are : (c : tie.After-level-bytes) → let s = c .before .before .before .args .s in set (c .level-bytes .result) 0 (getD (s .counts) 0 0) ≡ amountsOf (stateOf s)

@@ -16,8 +16,6 @@ use Rattle.levels.specs.LevelsLaws.{well-says}
 use Rattle.scores.specs.ScoresLaws.{bytes-turn, bytes-over, bytes-start, run-bytes}
 use Rattle.scores.proofs.level_bytes.Statement.{statement}
 use Rattle.scores.proofs.level_bytes.Tie as tie
-use Rattle.scores.proofs.level_bytes.Reads as reads
-use Rattle.scores.proofs.level_bytes.Lts as lts
 
 abbrev Inv-loop2 : tie.InvT-loop2
 Inv-loop2 files counts out i₀ level to bytes₀ i bytes = (i ≤ to) × (to ≤ sum counts) × (sum counts ≤ 256) × (bytes + total (run i to files) ≤ 256 * 2 ^ 40)

@@ -5,9 +5,6 @@ use borrow.Author.Needs.{needs}
 use Rattle.scores.specs.ScoresLaws.{whole-first, whole-deeper}
 use Rattle.scores.proofs.limit_of.Statement.{statement}
 use Rattle.scores.proofs.limit_of.Tie as tie
-use Rattle.scores.proofs.limit_of.Reads as reads
-use Rattle.scores.proofs.limit_of.Lts as lts
-use Rattle.records.proofs.byte_limit.Reads as byte-limit-reads
 
 returns : tie.Need-returns
 returns c = whole-first (c .before .args .level) (c .if1 .taken)

@@ -11,11 +11,6 @@ use Rattle.scores.specs.Scores.{workOf}
 use Rattle.scores.specs.ScoresLaws.{work-ill, work-done}
 use Rattle.scores.proofs.needs_compaction.Statement.{statement}
 use Rattle.scores.proofs.needs_compaction.Tie as tie
-use Rattle.scores.proofs.needs_compaction.Reads as reads
-use Rattle.scores.proofs.needs_compaction.Lts as lts
-use Rattle.scores.proofs.finalize.Reads as finalize-reads
-use Rattle.scores.proofs.no_score.Reads as no-score-reads
-use Rattle.store.proofs.is_well_formed.Reads as is-well-formed-reads
 
 is-well-formed-requires : tie.Need-is-well-formed-requires
 is-well-formed-requires c κs = search needs

@@ -9,9 +9,6 @@ use Rattle.model.specs.Score.{due, reported}
 use Rattle.scores.specs.Scores.{scoreAt, scoredAs}
 use Rattle.scores.proofs.scored_at.Statement.{statement}
 use Rattle.scores.proofs.scored_at.Tie as tie
-use Rattle.scores.proofs.scored_at.Reads as reads
-use Rattle.scores.proofs.scored_at.Lts as lts
-use Rattle.scores.proofs.limit_of.Reads as limit-of-reads
 
 limit-of-requires : tie.Need-limit-of-requires
 limit-of-requires c κs = search needs

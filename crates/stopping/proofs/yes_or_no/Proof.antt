@@ -1,9 +1,9 @@
--- `cutter::yes_or_no` meets its contract. Assumes nothing.
+-- `stopping::yes_or_no` meets its contract. Assumes nothing.
 use mathlib.Core.Path.{sym, ap}
 use Rattle.model.specs.Answer.{gives}
 use Rattle.answers.specs.Outcome.{toldOf}
-use Rattle.cutter.proofs.yes_or_no.Statement.{statement}
-use Rattle.cutter.proofs.yes_or_no.Tie as tie
+use Rattle.stopping.proofs.yes_or_no.Statement.{statement}
+use Rattle.stopping.proofs.yes_or_no.Tie as tie
 
 returns : tie.Need-returns
 unfolding toldOf

@@ -1,4 +1,4 @@
--- `cutter::stopped` meets its contract: a walk of its MIR, by hand. A local is lent as a `&mut` for a lifetime that is made for the call of `should_stop_before`, and comes back at the last value that the call's contract says.
+-- `stopping::stopped` meets its contract: a walk of its MIR, by hand. A local is lent as a `&mut` for a lifetime that is made for the call of `should_stop_before`, and comes back at the last value that the call's contract says.
 -- All that the proof knows of `should_stop_before` is that it meets its contract.
 -- Assumes nothing.
 use mathlib.Core.Path.{refl, ap}
@@ -48,21 +48,21 @@ use Rattle.keys.proofs.Key.Laws as K′
 use Rattle.picked.specs.declared.Picked.{Picked}
 use Rattle.picked.proofs.Picked as P
 use Rattle.picked.proofs.Picked.Laws as P′
-use Rattle.cutter.specs.Cutter.{Stops}
+use Rattle.stopping.specs.Stopping.{Stops}
 use Rattle.cutter.specs.declared.Cutter.{Cutter}
-use Rattle.cutter.specs.declared.Stepped.{Stepped}
+use Rattle.stopping.specs.declared.Stepped.{Stepped}
 use Rattle.cutter.proofs.Cutter as T
 use Rattle.cutter.proofs.Cutter.Laws as T′
-use Rattle.cutter.proofs.Stepped as S
-use Rattle.cutter.proofs.Stepped.Laws as S′
-use Rattle.cutter.proofs.should_stop_before as callee
-use Rattle.cutter.proofs.should_stop_before.Symbol as callee-def
-use Rattle.cutter.proofs.should_stop_before.Symbol.{name as #cutter·should-stop-before}
-use Rattle.cutter.proofs.should_stop_before.Met as callee-thm
-use Rattle.cutter.proofs.stopped.Key.{name as #cutter·stopped}
-use Rattle.cutter.proofs.stopped as stopped
-use Rattle.cutter.proofs.stopped.Statement as stated
-use Rattle.cutter.proofs.stopped.Code as code
+use Rattle.stopping.proofs.Stepped as S
+use Rattle.stopping.proofs.Stepped.Laws as S′
+use Rattle.stopping.proofs.should_stop_before as callee
+use Rattle.stopping.proofs.should_stop_before.Symbol as callee-def
+use Rattle.stopping.proofs.should_stop_before.Symbol.{name as #stopping·should-stop-before}
+use Rattle.stopping.proofs.should_stop_before.Met as callee-thm
+use Rattle.stopping.proofs.stopped.Key.{name as #stopping·stopped}
+use Rattle.stopping.proofs.stopped as stopped
+use Rattle.stopping.proofs.stopped.Statement as stated
+use Rattle.stopping.proofs.stopped.Code as code
 
 abbrev R : RattleType
 R = T.the-row
@@ -140,7 +140,7 @@ module _ {M : Type 1} (𝓤 : URA M) (H : Heap 𝓤) (A : Atoms 𝓤) (W : Given
   made : (r : Told) (z : Cutter) → Is E.the-row r (machE r ∷ []) → Is R z (mach z ∷ []) → Is S.the-row (record { told = r; memory = z }) (machS (record { told = r; memory = z }) ∷ [])
   made r z is isz = LL.owes S.the-type S′.the-laws (record { told = r; memory = z }) (is, (isz, tt))
 
-  module _ (C : Calls 𝓤 H) (Λ : Loops 𝓤 H) (fm : FmC 𝓤 H (W .laws) C) (known : Triple 𝓤 (C #cutter·should-stop-before) (Callee 𝓤 H A at-mem run)) where
+  module _ (C : Calls 𝓤 H) (Λ : Loops 𝓤 H) (fm : FmC 𝓤 H (W .laws) C) (known : Triple 𝓤 (C #stopping·should-stop-before) (Callee 𝓤 H A at-mem run)) where
     walk : ent 𝓤 (onEntry 𝓤 H A stopped.signature tt tt x at) (WpFn 𝓤 H C Λ code.function (machP p ∷ mach h ∷ machK k ∷ []) Post)
     walk =
         qed W (‵ ftrue ∷ ‵ (owns (P.the-row ∷ R ∷ K.the-row ∷ []) x at) ∷ []) ∵ enter ! C Λ code.function (machP p ∷ mach h ∷ machK k ∷ []) _ $
@@ -172,12 +172,12 @@ module _ {M : Type 1} (𝓤 : URA M) (H : Heap 𝓤) (A : Atoms 𝓤) (W : Given
         keep ! (1 ∷ []) $ by ! (exits (record { told = r; memory = zs .1 .0 }) (made r (zs .1 .0) is isz) e))))))))))))))))))
 
 module _ {M : Type 1} (𝓤 : URA M) (H : Heap 𝓤) (A : Atoms 𝓤) (W : Given 𝓤 H A) (at-mem : Memory → SProp 𝓤) (run : Routine → Fun 𝓤) where
-  stopped-walks : (C : Calls 𝓤 H) (Λ : Loops 𝓤 H) → FmC 𝓤 H (W .laws) C → Triple 𝓤 (C #cutter·should-stop-before) (Callee 𝓤 H A at-mem run) → Walks 𝓤 H A stopped.ended stayed (WpFn 𝓤 H C Λ code.function) (stopped.clauses 𝓤 H A at-mem run)
+  stopped-walks : (C : Calls 𝓤 H) (Λ : Loops 𝓤 H) → FmC 𝓤 H (W .laws) C → Triple 𝓤 (C #stopping·should-stop-before) (Callee 𝓤 H A at-mem run) → Walks 𝓤 H A stopped.ended stayed (WpFn 𝓤 H C Λ code.function) (stopped.clauses 𝓤 H A at-mem run)
   stopped-walks C Λ fm known = walked 𝓤 H A stopped.ended stayed (stopped.clauses 𝓤 H A at-mem run) (WpFn 𝓤 H C Λ code.function)
       (λ κs. (LL.vals P.the-type P′.the-laws, (LL.vals T.the-type T′.the-laws, (LL.vals K.the-type K′.the-laws, tt)))) (λ κs. (LL.tells P.the-type P′.the-laws, (LL.tells T.the-type T′.the-laws, (LL.tells K.the-type K′.the-laws, tt))))
       (λ κs qs bounds a _ are. via 𝓤 _ (fst∗ 𝓤 _ (emp 𝓤)) (walk 𝓤 H A W at-mem run (a .0) (a .1 .0) (a .1 .1 .0) (are .0) (are .1 .0) (are .1 .1 .0) C Λ fm known))
 
-stopped-meets : {M : Type 1} (𝓤 : URA M) (H : Heap 𝓤) (A : Atoms 𝓤) → Given 𝓤 H A → (at-mem : Memory → SProp 𝓤) (run : Routine → Fun 𝓤) (𝓣 : Tables 𝓤 H) → Triple 𝓤 (𝓣 .C #cutter·should-stop-before) (Callee 𝓤 H A at-mem run)
+stopped-meets : {M : Type 1} (𝓤 : URA M) (H : Heap 𝓤) (A : Atoms 𝓤) → Given 𝓤 H A → (at-mem : Memory → SProp 𝓤) (run : Routine → Fun 𝓤) (𝓣 : Tables 𝓤 H) → Triple 𝓤 (𝓣 .C #stopping·should-stop-before) (Callee 𝓤 H A at-mem run)
     → Meets 𝓤 H A stopped.signature (WpFn 𝓤 H (𝓣 .C) (𝓣 .Λ) code.function) (stopped.spec 𝓤 H A at-mem run)
 stopped-meets 𝓤 H A W at-mem run 𝓣 known =
     walk-meets 𝓤 H A stopped.ended stayed W (goes-none 𝓤 H A W 0 (λ _. P.the-row) yes (λ κs x f. refl), (goes-none 𝓤 H A W 0 (λ _. R) yes (λ κs x f. refl), (goes-none 𝓤 H A W 0 (λ _. K.the-row) yes (λ κs x f. refl), tt))) (stopped.clauses 𝓤 H A at-mem run)
@@ -187,6 +187,6 @@ pub stopped-spec : {M : Type 1} → stated.statement M
 unfolding code.routine tablesOf
 stopped-spec 𝓤 H 𝓜 𝓖 𝓡 =
     entered 𝓤 H (tripleOf 𝓤 H (𝓖 .A) stopped.signature (stopped.spec 𝓤 H (𝓖 .A) (𝓜 .mem) (𝓡 .run)))
-    (tables 𝓤 H 𝓜 𝓡 code.env .C) (tables 𝓤 H 𝓜 𝓡 code.env .Λ) #cutter·stopped code.function (code.unfolded 𝓤 H 𝓜 𝓡)
+    (tables 𝓤 H 𝓜 𝓡 code.env .C) (tables 𝓤 H 𝓜 𝓡 code.env .Λ) #stopping·stopped code.function (code.unfolded 𝓤 H 𝓜 𝓡)
     (stopped-meets 𝓤 H (𝓖 .A) (givenOf 𝓤 H 𝓜 𝓖) (𝓜 .mem) (𝓡 .run) (tablesOf 𝓤 H 𝓜 (tables 𝓤 H 𝓜 𝓡 code.env))
-    (cited 𝓤 H (Callee 𝓤 H (𝓖 .A) (𝓜 .mem) (𝓡 .run)) 𝓜 𝓡 code.env #cutter·should-stop-before callee-def.routine code.calls-cutter·should-stop-before (callee-thm.met 𝓤 H 𝓜 𝓖 𝓡)))
+    (cited 𝓤 H (Callee 𝓤 H (𝓖 .A) (𝓜 .mem) (𝓡 .run)) 𝓜 𝓡 code.env #stopping·should-stop-before callee-def.routine code.calls-stopping·should-stop-before (callee-thm.met 𝓤 H 𝓜 𝓖 𝓡)))

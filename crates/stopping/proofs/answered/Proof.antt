@@ -1,8 +1,8 @@
--- `cutter::answered` meets its contract. Assumes nothing.
-use Rattle.cutter.specs.CutterLaws.{stops-refused, stops-done}
+-- `stopping::answered` meets its contract. Assumes nothing.
+use Rattle.stopping.specs.StoppingLaws.{stops-refused, stops-done}
 use borrow.Author.Needs.{needs}
-use Rattle.cutter.proofs.answered.Statement.{statement}
-use Rattle.cutter.proofs.answered.Tie as tie
+use Rattle.stopping.proofs.answered.Statement.{statement}
+use Rattle.stopping.proofs.answered.Tie as tie
 
 step-requires : tie.Need-step-requires
 step-requires c κs = search needs

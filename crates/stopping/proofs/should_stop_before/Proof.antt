@@ -1,4 +1,4 @@
--- `cutter::should_stop_before` meets its contract: a walk of its MIR, by hand. The borrow is opened, the memory is copied and passed to `answered`; of what that returns
+-- `stopping::should_stop_before` meets its contract: a walk of its MIR, by hand. The borrow is opened, the memory is copied and passed to `answered`; of what that returns
 -- the one part is stored behind the borrow, which is closed there, and the other is the result. All that the proof knows of `answered` is that it meets its contract.
 -- Assumes nothing.
 use mathlib.Core.Path.{refl, ap}
@@ -47,21 +47,21 @@ use Rattle.keys.proofs.Key.Laws as K′
 use Rattle.picked.specs.declared.Picked.{Picked}
 use Rattle.picked.proofs.Picked as P
 use Rattle.picked.proofs.Picked.Laws as P′
-use Rattle.cutter.specs.Cutter.{Stops}
+use Rattle.stopping.specs.Stopping.{Stops}
 use Rattle.cutter.specs.declared.Cutter.{Cutter}
-use Rattle.cutter.specs.declared.Stepped.{Stepped}
+use Rattle.stopping.specs.declared.Stepped.{Stepped}
 use Rattle.cutter.proofs.Cutter as T
 use Rattle.cutter.proofs.Cutter.Laws as T′
-use Rattle.cutter.proofs.Stepped as S
-use Rattle.cutter.proofs.Stepped.Laws as S′
-use Rattle.cutter.proofs.answered as callee
-use Rattle.cutter.proofs.answered.Symbol as callee-def
-use Rattle.cutter.proofs.answered.Symbol.{name as #cutter·answered}
-use Rattle.cutter.proofs.answered.Met as callee-thm
-use Rattle.cutter.proofs.should_stop_before.Key.{name as #cutter·should-stop-before}
-use Rattle.cutter.proofs.should_stop_before as stop
-use Rattle.cutter.proofs.should_stop_before.Statement as stated
-use Rattle.cutter.proofs.should_stop_before.Code as code
+use Rattle.stopping.proofs.Stepped as S
+use Rattle.stopping.proofs.Stepped.Laws as S′
+use Rattle.stopping.proofs.answered as callee
+use Rattle.stopping.proofs.answered.Symbol as callee-def
+use Rattle.stopping.proofs.answered.Symbol.{name as #stopping·answered}
+use Rattle.stopping.proofs.answered.Met as callee-thm
+use Rattle.stopping.proofs.should_stop_before.Key.{name as #stopping·should-stop-before}
+use Rattle.stopping.proofs.should_stop_before as stop
+use Rattle.stopping.proofs.should_stop_before.Statement as stated
+use Rattle.stopping.proofs.should_stop_before.Code as code
 
 abbrev Arg : Type 0
 Arg = Picked × (RefT Cutter × (Key × Unit {0}))
@@ -128,7 +128,7 @@ module _ {M : Type 1} (𝓤 : URA M) (H : Heap 𝓤) (A : Atoms 𝓤) (W : Given
   parts : (r : Stepped) → Is S.the-row r (machS r ∷ []) → Is E.the-row (r .told) (machE (r .told) ∷ []) × Is T.the-row (r .memory) (mach (r .memory) ∷ [])
   parts r is = let both = LL.owed S.the-type S′.the-laws r _ is in (both .0, both .1 .0)
 
-  module _ (C : Calls 𝓤 H) (Λ : Loops 𝓤 H) (fm : FmC 𝓤 H (W .laws) C) (known : Triple 𝓤 (C #cutter·answered) (Callee 𝓤 H A at-mem run)) where
+  module _ (C : Calls 𝓤 H) (Λ : Loops 𝓤 H) (fm : FmC 𝓤 H (W .laws) C) (known : Triple 𝓤 (C #stopping·answered) (Callee 𝓤 H A at-mem run)) where
     walk : ent 𝓤 (onEntry 𝓤 H A stop.signature (κ, tt) (q, tt) x at) (WpFn 𝓤 H C Λ code.function (machP p ∷ vptr b o ∷ machK k ∷ []) Post)
     walk =
         qed W ((‵ (flft κ q) ⊛ ‵ ftrue) ∷ ‵ (owns (P.the-row ∷ MutRef (named 0) κ T.the-row ∷ K.the-row ∷ []) x at) ∷ []) ∵ enter ! C Λ code.function (machP p ∷ vptr b o ∷ machK k ∷ []) _ $
@@ -159,7 +159,7 @@ module _ {M : Type 1} (𝓤 : URA M) (H : Heap 𝓤) (A : Atoms 𝓤) (W : Given
         keep ! (0 ∷ 1 ∷ 2 ∷ []) $ by ! (exits r e (parts r is .0)))))))))))))))
 
 module _ {M : Type 1} (𝓤 : URA M) (H : Heap 𝓤) (A : Atoms 𝓤) (W : Given 𝓤 H A) (at-mem : Memory → SProp 𝓤) (run : Routine → Fun 𝓤) where
-  stop-walks : (C : Calls 𝓤 H) (Λ : Loops 𝓤 H) → FmC 𝓤 H (W .laws) C → Triple 𝓤 (C #cutter·answered) (Callee 𝓤 H A at-mem run) → Walks 𝓤 H A stop.ended stayed (WpFn 𝓤 H C Λ code.function) (stop.clauses 𝓤 H A at-mem run)
+  stop-walks : (C : Calls 𝓤 H) (Λ : Loops 𝓤 H) → FmC 𝓤 H (W .laws) C → Triple 𝓤 (C #stopping·answered) (Callee 𝓤 H A at-mem run) → Walks 𝓤 H A stop.ended stayed (WpFn 𝓤 H C Λ code.function) (stop.clauses 𝓤 H A at-mem run)
   stop-walks C Λ fm known = walked 𝓤 H A stop.ended stayed (stop.clauses 𝓤 H A at-mem run) (WpFn 𝓤 H C Λ code.function)
       (λ κs. (LL.vals P.the-type P′.the-laws, (ptr-vals, (LL.vals K.the-type K′.the-laws, tt)))) (λ κs. (LL.tells P.the-type P′.the-laws, (mut-tells (named 0) (κs .0) T.the-row, (LL.tells K.the-type K′.the-laws, tt))))
       (λ κs qs bounds a _ are. via 𝓤 _ (fst∗ 𝓤 _ (emp 𝓤)) (walk 𝓤 H A W at-mem run (κs .0) (qs .0) (a .1 .0 .ptr .0) (a .1 .0 .ptr .1) (a .1 .0 .name) (a .0) (a .1 .0 .now) (a .1 .1 .0) (are .0) (are .1 .1 .0) C Λ fm known))
@@ -167,7 +167,7 @@ module _ {M : Type 1} (𝓤 : URA M) (H : Heap 𝓤) (A : Atoms 𝓤) (W : Given
   goes : AllGo 𝓤 H A W 1 (stop.signature .params) (stop.ended .kept) stayed
   goes = (goes-none 𝓤 H A W 1 (λ _. P.the-row) yes (λ κs x f. refl), (goes-ref 𝓤 H A W 1 0 tt (plain (λ _. T.the-row)), (goes-none 𝓤 H A W 1 (λ _. K.the-row) yes (λ κs x f. refl), tt)))
 
-stop-meets : {M : Type 1} (𝓤 : URA M) (H : Heap 𝓤) (A : Atoms 𝓤) → Given 𝓤 H A → (at-mem : Memory → SProp 𝓤) (run : Routine → Fun 𝓤) (𝓣 : Tables 𝓤 H) → Triple 𝓤 (𝓣 .C #cutter·answered) (Callee 𝓤 H A at-mem run)
+stop-meets : {M : Type 1} (𝓤 : URA M) (H : Heap 𝓤) (A : Atoms 𝓤) → Given 𝓤 H A → (at-mem : Memory → SProp 𝓤) (run : Routine → Fun 𝓤) (𝓣 : Tables 𝓤 H) → Triple 𝓤 (𝓣 .C #stopping·answered) (Callee 𝓤 H A at-mem run)
     → Meets 𝓤 H A stop.signature (WpFn 𝓤 H (𝓣 .C) (𝓣 .Λ) code.function) (stop.spec 𝓤 H A at-mem run)
 stop-meets 𝓤 H A W at-mem run 𝓣 known = walk-meets 𝓤 H A stop.ended stayed W (goes 𝓤 H A W at-mem run) (stop.clauses 𝓤 H A at-mem run) (WpFn 𝓤 H (𝓣 .C) (𝓣 .Λ) code.function) (WpFn-mono 𝓤 H (W .laws) 𝓣 code.function) (stop-walks 𝓤 H A W at-mem run (𝓣 .C) (𝓣 .Λ) (fmOf 𝓤 H (W .laws) 𝓣) known)
 
@@ -175,6 +175,6 @@ pub should-stop-before-spec : {M : Type 1} → stated.statement M
 unfolding code.routine tablesOf
 should-stop-before-spec 𝓤 H 𝓜 𝓖 𝓡 =
     entered 𝓤 H (tripleOf 𝓤 H (𝓖 .A) stop.signature (stop.spec 𝓤 H (𝓖 .A) (𝓜 .mem) (𝓡 .run)))
-    (tables 𝓤 H 𝓜 𝓡 code.env .C) (tables 𝓤 H 𝓜 𝓡 code.env .Λ) #cutter·should-stop-before code.function (code.unfolded 𝓤 H 𝓜 𝓡)
+    (tables 𝓤 H 𝓜 𝓡 code.env .C) (tables 𝓤 H 𝓜 𝓡 code.env .Λ) #stopping·should-stop-before code.function (code.unfolded 𝓤 H 𝓜 𝓡)
     (stop-meets 𝓤 H (𝓖 .A) (givenOf 𝓤 H 𝓜 𝓖) (𝓜 .mem) (𝓡 .run) (tablesOf 𝓤 H 𝓜 (tables 𝓤 H 𝓜 𝓡 code.env))
-    (cited 𝓤 H (Callee 𝓤 H (𝓖 .A) (𝓜 .mem) (𝓡 .run)) 𝓜 𝓡 code.env #cutter·answered callee-def.routine code.calls-cutter·answered (callee-thm.met 𝓤 H 𝓜 𝓖 𝓡)))
+    (cited 𝓤 H (Callee 𝓤 H (𝓖 .A) (𝓜 .mem) (𝓡 .run)) 𝓜 𝓡 code.env #stopping·answered callee-def.routine code.calls-stopping·answered (callee-thm.met 𝓤 H 𝓜 𝓖 𝓡)))
