@@ -3,7 +3,7 @@ use Prim.Native.Nat.{ℕ}
 use mathlib.Core.Bool.{Bool, true, false}
 use mathlib.Core.List.{List}
 use lib.ListN.{length}
-use Rattle.model.specs.Answer.{Answer, gives, refused, onAnswer}
+use Rattle.model.specs.Answer.{Answer, Refusal, gives, refused, onAnswer, firstOf}
 use Rattle.answers.specs.declared.Outcome.{Outcome}
 use Rattle.answers.specs.declared.Outcome.the-variants.{Done, Refused}
 use Rattle.answers.specs.declared.Told.{Told}
@@ -15,6 +15,10 @@ use Rattle.answers.specs.declared.Counted.the-variants as counted
 unfoldable pub outcomeOf : {A : Type 0} → Answer A → Outcome
 outcomeOf (gives a) = Done
 outcomeOf (refused n) = Refused n
+
+-- what a list of tests comes to: done where none applies, else refused by the first that does
+unfoldable pub passed : List Refusal → Outcome
+passed rs = outcomeOf (firstOf rs rs)
 
 -- the answer of a question, or the number of its refusal
 unfoldable pub toldOf : Told → Answer Bool

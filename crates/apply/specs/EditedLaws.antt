@@ -18,7 +18,7 @@ use Rattle.model.specs.File as file
 use Rattle.model.specs.File.{File, State, full, numbers, goodFile, wellFormed, noCollision, levelwise}
 use Rattle.model.specs.Edit as model
 use Rattle.model.specs.Edit.{survivorsFrom, pointed, logged, applied, resultRefusals, edit}
-use Rattle.answers.specs.Outcome.{outcomeOf}
+use Rattle.answers.specs.Outcome.{outcomeOf, passed}
 use Rattle.answers.specs.declared.Outcome.the-variants.{Done, Refused}
 use Rattle.keys.specs.Key.{keyOf}
 use Rattle.counters.specs.Counters.{countersOf, countersRecord}
@@ -33,8 +33,9 @@ use Rattle.edits.specs.EditLaws as edits
 use Rattle.edits.specs.EditLaws.{Few}
 use Rattle.edits.specs.declared.Edit.{Edit}
 use Rattle.edits.specs.declared.Pointing.{Pointing}
-use Rattle.entries.specs.Entries.{passed, checks}
-use Rattle.entries.specs.EntryLaws.{Checked, passed-is, passed-refused, passed-none}
+use Rattle.entries.specs.Entries.{checks}
+use Rattle.answers.specs.OutcomeLaws.{passed-is, passed-refused, passed-none}
+use Rattle.entries.specs.EntryLaws.{Checked}
 use Rattle.planning.specs.Planning.{additionsFine, crowding}
 use Rattle.apply.specs.Apply.{pointedBy}
 

@@ -20,7 +20,8 @@ use Rattle.store.specs.declared.Store.{Store}
 use Rattle.edits.specs.Edit.{editOf}
 use Rattle.edits.specs.EditLaws.{HasRoom, Few, few}
 use Rattle.edits.specs.declared.Edit.{Edit}
-use Rattle.entries.specs.Entries.{passed, checks}
+use Rattle.answers.specs.Outcome.{passed}
+use Rattle.entries.specs.Entries.{checks}
 use Rattle.entries.specs.EntryLaws.{Checked, checks-say}
 use Rattle.stayers.specs.Stayers.{recordNumber, numberAt, isBelow, recordsAt}
 use Rattle.arrangement.specs.Arrangement.{areLevels}

@@ -1,97 +1,27 @@
--- Laws of what refuses an edit's entries: what a list of tests comes to, the tests in their order, and what an edit that passes them is. Assumes nothing.
+-- Laws of what refuses an edit's entries: the tests in their order, and what an edit that passes them is. Assumes nothing.
 use Prim.Native.Nat.{ℕ, _+_, _≤_, _<_}
-use mathlib.Core.Path.{_≡_, refl, sym, ap, _∙_}
-use mathlib.Core.Bool.{Bool, true, false, not, _&&_, cond}
+use mathlib.Core.Path.{_≡_, refl, ap, _∙_}
+use mathlib.Core.Bool.{true, false, not, _&&_}
 use mathlib.Core.List.{List, [], _∷_, _++_, map, append-assoc, List·Memᴰ·head as here, List·Memᴰ·tail as there, Memᴰ·append-left as in-left, Memᴰ·append-right as in-right}
 use lib.Dec.{ltb, leb}
 use lib.ListN.{length, getD}
 use lib.Seq.{slice}
 use borrow.Author.Tests.{lt-ltb, le-leb}
-use Rattle.lemmas.specs.Order.{clash}
 use Rattle.lemmas.specs.Lists.{all}
 use Rattle.lemmas.specs.ListLaws.{both, all-in}
 use Rattle.lemmas.specs.Slices.{drop-view, view-end}
-use Rattle.model.specs.Answer.{Answer, gives, refused, Refusal, firstOf, _⇒_}
-use Rattle.model.specs.AnswerLaws.{NoneApplies, firstOf-gives}
+use Rattle.model.specs.Answer.{Refusal, _⇒_}
+use Rattle.model.specs.AnswerLaws.{NoneApplies}
 use Rattle.model.specs.Key.{goodKey, before}
 use Rattle.model.specs.File.{full, goodFile, maxSize}
 use Rattle.model.specs.File as model-file
 use Rattle.model.specs.Edit as model
 use Rattle.model.specs.Edit.{tooMany, badLog, pointerRefusals, deletionRefusals, additionRefusals, entryRefusals}
 use Rattle.model.specs.EditLaws.{AdditionFits, pointers-fit, deletions-fit, additions-fit}
-use Rattle.answers.specs.Outcome.{outcomeOf}
+use Rattle.answers.specs.Outcome.{passed}
+use Rattle.answers.specs.OutcomeLaws.{passed-nil, passed-here, passed-later, passed-refused, passed-done, passed-none}
 use Rattle.answers.specs.declared.Outcome.the-variants.{Done, Refused}
-use Rattle.entries.specs.Entries.{passed, checks}
-
--- ---- what a list of tests comes to
-
--- it does not depend on the answer that is given where none applies
-outcome-same : {A B : Type 0} (rs : List Refusal) (a : A) (b : B) → outcomeOf (firstOf rs a) ≡ outcomeOf (firstOf rs b)
-unfolding firstOf outcomeOf
-outcome-same [] a b = refl
-outcome-same (r ∷ rs) a b = go (outcome-same rs a b) (r .applies)
-  where
-    go : outcomeOf (firstOf rs a) ≡ outcomeOf (firstOf rs b) → (t : Bool) → outcomeOf (cond t (refused (r .code)) (firstOf rs a)) ≡ outcomeOf (cond t (refused (r .code)) (firstOf rs b))
-    go ih true = refl
-    go ih false = ih
-
--- so it is the outcome of any answer behind these tests
-pub passed-is : {A : Type 0} (rs : List Refusal) (a : A) → passed rs ≡ outcomeOf (firstOf rs a)
-unfolding passed
-passed-is rs a = outcome-same rs rs a
-
--- no test
-pub passed-nil : passed [] ≡ Done
-unfolding passed firstOf outcomeOf
-passed-nil = refl
-
--- by the first test, whatever it is
-module _ (r : Refusal) (rs : List Refusal) where
-  first-here : r .applies ≡ true → passed (r ∷ rs) ≡ Refused (r .code)
-  unfolding passed firstOf outcomeOf
-  first-here e = rw e
-
-  first-later : r .applies ≡ false → passed (r ∷ rs) ≡ passed rs
-  unfolding passed firstOf
-  first-later e =
-      ap (λ (t : Bool). outcomeOf (cond t (refused (r .code)) (firstOf rs (r ∷ rs)))) e ∙ outcome-same rs (r ∷ rs) rs
-
--- the first test applies, or does not
-module _ (b : Bool) (n : ℕ) (rs : List Refusal) where
-  pub passed-here : b ≡ true → passed ((b ⇒ n) ∷ rs) ≡ Refused n
-  unfolding _⇒_
-  passed-here e = first-here (b ⇒ n) rs e
-
-  pub passed-later : b ≡ false → passed ((b ⇒ n) ∷ rs) ≡ passed rs
-  unfolding _⇒_
-  passed-later e = first-later (b ⇒ n) rs e
-
--- two lists: the first refuses, or does not
-module _ (ys : List Refusal) where
-  pub passed-refused : (xs : List Refusal) (n : ℕ) → passed xs ≡ Refused n → passed (xs ++ ys) ≡ Refused n
-  passed-refused [] n e = let z : true ≡ false = cc passed-nil in clash refl z
-  passed-refused (x ∷ xs) n e = go (passed-refused xs n) (x .applies) refl
-    where
-      go : (passed xs ≡ Refused n → passed (xs ++ ys) ≡ Refused n) → (t : Bool) → x .applies ≡ t → passed (x ∷ (xs ++ ys)) ≡ Refused n
-      go ih true f = first-here x (xs ++ ys) f ∙ sym (first-here x xs f) ∙ e
-      go ih false f = first-later x (xs ++ ys) f ∙ ih (sym (first-later x xs f) ∙ e)
-
-  pub passed-done : (xs : List Refusal) → passed xs ≡ Done → passed (xs ++ ys) ≡ passed ys
-  passed-done [] e = refl
-  passed-done (x ∷ xs) e = go (passed-done xs) (x .applies) refl
-    where
-      go : (passed xs ≡ Done → passed (xs ++ ys) ≡ passed ys) → (t : Bool) → x .applies ≡ t → passed (x ∷ (xs ++ ys)) ≡ passed ys
-      go ih true f = let z : true ≡ false = cc (first-here x xs f) in clash refl z
-      go ih false f = first-later x (xs ++ ys) f ∙ ih (sym (first-later x xs f) ∙ e)
-
--- done: no test applies
-pub passed-none : (rs : List Refusal) → passed rs ≡ Done → NoneApplies rs
-unfolding passed outcomeOf
-passed-none rs e = go (firstOf rs rs) refl
-  where
-    go : (a : Answer (List Refusal)) → firstOf rs rs ≡ a → NoneApplies rs
-    go (gives t) q = firstOf-gives rs rs t q .none-applies
-    go (refused n) q = let f = rw q at e in let z : true ≡ false = cc in clash refl z
+use Rattle.entries.specs.Entries.{checks}
 
 -- ---- the tests of entries in turn, each entry's after those of the one before
 module _ {A B : Type 0} (f : A → B) (tests : List B → List Refusal) (turn : (x : B) (xs : List B) → tests (x ∷ xs) ≡ tests (x ∷ []) ++ tests xs) (i e : ℕ) (l : List A) where

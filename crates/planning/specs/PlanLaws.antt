@@ -22,7 +22,7 @@ use Rattle.edits.specs.EditLaws.{HasRoom, Few}
 use Rattle.edits.specs.declared.Edit.{Edit}
 use Rattle.edits.specs.declared.Deletion.{Deletion}
 use Rattle.edits.specs.declared.Addition.{Addition}
-use Rattle.entries.specs.Entries.{passed}
+use Rattle.answers.specs.Outcome.{passed}
 use Rattle.stayers.specs.Stayers.{recordNumber, staysBy, stayersBy, numberAt, placesOf, isBelow, keptOf, recordsAt}
 use Rattle.stayers.specs.StayLaws.{staysIn, stayers-few}
 use Rattle.stayers.specs.PlaceLaws as place

@@ -14,7 +14,7 @@ use Rattle.keys.specs.declared.Key.{Key}
 use Rattle.records.specs.Record.{recordOf, vacant}
 use Rattle.records.specs.declared.FileRecord.{FileRecord}
 use Rattle.edits.specs.Edit.{additionOf}
-use Rattle.entries.specs.Entries.{passed}
+use Rattle.answers.specs.Outcome.{passed}
 use Rattle.edits.specs.declared.Deletion.{Deletion}
 use Rattle.edits.specs.declared.Addition.{Addition}
 use Rattle.stayers.specs.Stayers.{staysBy, stayersBy, stayersFrom, numberAt, placesOf, keptOf}

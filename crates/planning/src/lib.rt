@@ -9,7 +9,7 @@ ghost use Rattle.lemmas.specs.Lists.{distinct, join, sum};
 ghost use Rattle.lemmas.specs.Slices.{put};
 ghost use Rattle.model.specs.Answer.{_⇒_};
 ghost use Rattle.records.specs.Record.{vacant};
-ghost use Rattle.entries.specs.Entries.{passed};
+ghost use Rattle.answers.specs.Outcome.{passed};
 ghost use Rattle.stayers.specs.Stayers.{numberAt};
 ghost use Rattle.arrangement.specs.Arrangement.{areLevels};
 ghost use Rattle.planning.specs.Planning.{levelsGone, numbersGone, noKeys, keysIn, newsOf, levelsIn, numbersIn, stayPlaces, planOf};

@@ -12,7 +12,8 @@ use Rattle.store.proofs.Shape.{shape}
 use Rattle.edits.specs.Edit.{editOf}
 use Rattle.edits.specs.EditLaws.{HasRoom}
 use Rattle.edits.proofs.Shape.{has-room}
-use Rattle.entries.specs.Entries.{passed, checks}
+use Rattle.answers.specs.Outcome.{passed}
+use Rattle.entries.specs.Entries.{checks}
 use Rattle.apply.specs.EditedLaws.{apply-ill, apply-unfit}
 use Rattle.apply.specs.TestedLaws as tested
 use Rattle.apply.proofs.apply.Statement.{statement}

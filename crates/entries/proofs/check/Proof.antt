@@ -9,8 +9,10 @@ use Rattle.counters.specs.Counters.{countersOf}
 use Rattle.edits.specs.Edit.{editOf}
 use Rattle.edits.specs.EditLaws.{Few, few, pointers-are}
 use Rattle.edits.proofs.Shape.{has-room}
-use Rattle.entries.specs.Entries.{passed, checks}
-use Rattle.entries.specs.EntryLaws.{passed-refused, passed-done, checks-many, checks-log, checks-entries}
+use Rattle.answers.specs.Outcome.{passed}
+use Rattle.entries.specs.Entries.{checks}
+use Rattle.answers.specs.OutcomeLaws.{passed-refused, passed-done}
+use Rattle.entries.specs.EntryLaws.{checks-many, checks-log, checks-entries}
 use borrow.Author.Needs.{needs}
 use Rattle.entries.proofs.check.Statement.{statement}
 use Rattle.entries.proofs.check.Tie as tie

@@ -6,10 +6,9 @@ use Rattle.model.specs.Answer.{firstOf, _⇒_}
 use Rattle.model.specs.Key.{goodKey}
 use Rattle.model.specs.File.{full, maxSize}
 use Rattle.model.specs.Edit.{additionRefusals}
-use Rattle.answers.specs.Outcome.{outcomeOf}
+use Rattle.answers.specs.Outcome.{outcomeOf, passed}
 use Rattle.keys.specs.Key.{keyOf}
 use Rattle.edits.specs.Edit.{additionOf}
-use Rattle.entries.specs.Entries.{passed}
 use borrow.Author.Needs.{needs}
 use Rattle.entries.proofs.check_addition.Statement.{statement}
 use Rattle.entries.proofs.check_addition.Tie as tie

@@ -10,7 +10,7 @@ use Rattle.model.specs.File.{full}
 use Rattle.model.specs.Edit.{additionRefusals}
 use Rattle.edits.specs.Edit.{additionOf}
 use Rattle.edits.specs.EditLaws.{pastAddition}
-use Rattle.entries.specs.Entries.{passed}
+use Rattle.answers.specs.Outcome.{passed}
 use Rattle.entries.specs.EntryLaws.{additions-turn, entry-refused, entry-done, entries-done}
 use Rattle.entries.proofs.check_additions.Statement.{statement}
 use Rattle.entries.proofs.check_additions.Tie as tie

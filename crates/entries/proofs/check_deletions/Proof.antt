@@ -10,12 +10,11 @@ use lib.Seq.{slice}
 use Rattle.model.specs.Answer.{firstOf, _⇒_}
 use Rattle.model.specs.File.{full}
 use Rattle.model.specs.Edit.{deletionRefusals}
-use Rattle.answers.specs.Outcome.{outcomeOf}
+use Rattle.answers.specs.Outcome.{outcomeOf, passed}
 use Rattle.answers.specs.declared.Outcome.the-variants.{Done, Refused}
 use Rattle.edits.specs.declared.Deletion.{Deletion}
 use Rattle.edits.specs.Edit.{deletionOf}
 use Rattle.edits.specs.EditLaws.{pastDeletion}
-use Rattle.entries.specs.Entries.{passed}
 use Rattle.entries.specs.EntryLaws.{deletions-turn, entry-refused, entry-done, entries-done}
 use Rattle.entries.proofs.check_deletions.Statement.{statement}
 use Rattle.entries.proofs.check_deletions.Tie as tie

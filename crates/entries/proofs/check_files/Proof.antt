@@ -7,8 +7,8 @@ use Rattle.model.specs.Edit.{deletionRefusals, additionRefusals}
 use Rattle.edits.specs.Edit.{editOf}
 use Rattle.edits.specs.EditLaws.{Few, few, deletions-are, additions-are}
 use Rattle.edits.proofs.Shape.{has-room}
-use Rattle.entries.specs.Entries.{passed}
-use Rattle.entries.specs.EntryLaws.{passed-refused, passed-done}
+use Rattle.answers.specs.Outcome.{passed}
+use Rattle.answers.specs.OutcomeLaws.{passed-refused, passed-done}
 use borrow.Author.Needs.{needs}
 use Rattle.entries.proofs.check_files.Statement.{statement}
 use Rattle.entries.proofs.check_files.Tie as tie

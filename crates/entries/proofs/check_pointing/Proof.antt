@@ -2,11 +2,10 @@
 use mathlib.Core.Path.{sym, _∙_}
 use borrow.Author.Tests.{lt-ltb, le-ltb, not-true, not-false}
 use Rattle.model.specs.Answer.{firstOf, _⇒_}
-use Rattle.answers.specs.Outcome.{outcomeOf}
+use Rattle.answers.specs.Outcome.{outcomeOf, passed}
 use Rattle.model.specs.File.{full}
 use Rattle.model.specs.Edit.{pointerRefusals}
 use Rattle.edits.specs.Edit.{pointingOf}
-use Rattle.entries.specs.Entries.{passed}
 use borrow.Author.Needs.{needs}
 use Rattle.entries.proofs.check_pointing.Statement.{statement}
 use Rattle.entries.proofs.check_pointing.Tie as tie

@@ -10,7 +10,7 @@ use Rattle.model.specs.File.{full}
 use Rattle.model.specs.Edit.{pointerRefusals}
 use Rattle.edits.specs.Edit.{pointingOf}
 use Rattle.edits.specs.EditLaws.{pastPointing}
-use Rattle.entries.specs.Entries.{passed}
+use Rattle.answers.specs.Outcome.{passed}
 use Rattle.entries.specs.EntryLaws.{pointers-turn, entry-refused, entry-done, entries-done}
 use Rattle.entries.proofs.check_pointings.Statement.{statement}
 use Rattle.entries.proofs.check_pointings.Tie as tie

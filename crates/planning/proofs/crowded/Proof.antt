@@ -4,7 +4,7 @@ use mathlib.Core.List.{[], _∷_}
 use borrow.Author.Tests.{lt-ltb, le-ltb}
 use lib.Dec.{ltb}
 use Rattle.model.specs.Answer.{_⇒_}
-use Rattle.entries.specs.EntryLaws.{passed-nil, passed-here, passed-later}
+use Rattle.answers.specs.OutcomeLaws.{passed-nil, passed-here, passed-later}
 use Rattle.planning.proofs.crowded.Statement.{statement}
 use Rattle.planning.proofs.crowded.Tie as tie
 

@@ -16,7 +16,7 @@ use Rattle.model.specs.File.{full}
 use Rattle.keys.specs.declared.Key.{Key}
 use Rattle.edits.specs.declared.Deletion.{Deletion}
 use Rattle.edits.specs.declared.Addition.{Addition}
-use Rattle.entries.specs.Entries.{passed}
+use Rattle.answers.specs.Outcome.{passed}
 use Rattle.stayers.specs.Stayers.{staysBy, stayersBy, numberAt, placesOf, isBelow, keptOf}
 use Rattle.stayers.specs.declared.Kept.{Kept}
 use Rattle.stayers.specs.PlaceLaws.{below-of}
