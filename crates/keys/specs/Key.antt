@@ -1,8 +1,8 @@
 -- What the records of keys stand for: lists of bytes, as the model has them. Assumes nothing.
-use Prim.Native.Nat.{ℕ, _+_, _-_}
+use Prim.Native.Nat.{ℕ, _-_}
 use mathlib.Core.Bool.{Bool, _&&_, cond}
 use mathlib.Core.List.{List, [], _++_}
-use lib.Dec.{ltb, leb}
+use lib.Dec.{leb}
 use lib.ListN.{length, take, drop, replicate}
 use Rattle.lemmas.specs.Lists.{all}
 use Rattle.keys.specs.declared.Key.{Key}
@@ -45,10 +45,6 @@ soundKey k = sound 40 (k .bytes) (k .len)
 -- the record of a user key is sound
 unfoldable pub soundUser : UserKey → Bool
 soundUser u = sound 32 (u .bytes) (u .len)
-
--- the larger number first
-unfoldable pub larger : ℕ → ℕ → Bool
-larger a b = ltb b a
 
 -- one list laid at the start of another, as much of it as there is room for
 unfoldable pub laid : List ℕ → List ℕ → List ℕ

@@ -8,8 +8,8 @@ use native.Mathlib.Omega.{arith}
 use lib.Dec.{leb, ltb, eqb}
 use lib.ListN.{length, take, drop, replicate, length-append, length-take, length-drop, getD, length-replicate, take-append-drop, replicate-append-replicate}
 use lib.Pow.{areBytes}
-use lib.Seq.{take-append-seam, drop-append-seam, take-all, drop-at, drop-nil, getD-take}
-use borrow.Author.Tests.{leb-true, leb-false, le-leb, lt-leb, eqb-true}
+use lib.Seq.{take-take, take-append-seam, drop-append-seam, take-all, drop-at, drop-nil, getD-take}
+use borrow.Author.Tests.{leb-true, leb-false, le-leb, lt-leb, ltb-true, ltb-false, eqb-true}
 use Rattle.lemmas.specs.Lists.{all}
 use Rattle.lemmas.specs.ListLaws.{and-left, and-right, both}
 use Rattle.lemmas.specs.Fronts.{front-front}
@@ -22,8 +22,8 @@ use Rattle.keys.specs.declared.Key.{Key}
 use Rattle.keys.specs.declared.UserKey.{UserKey}
 use Rattle.octets.specs.declared.Order.the-variants.{Less, Equal, Greater}
 use Rattle.octets.specs.Octets.{isZero, standing}
-use Rattle.octets.specs.Standing.{stands-less, stands-greater, standing-less, standing-equal, standing-greater}
-use Rattle.keys.specs.Key.{held, keyOf, userOf, padded, keyRecord, userRecord, sound, soundKey, larger, laid}
+use Rattle.octets.specs.Standing.{standing-less, standing-equal, standing-greater}
+use Rattle.keys.specs.Key.{held, keyOf, userOf, padded, keyRecord, userRecord, sound, soundKey, laid}
 
 -- ---- what a record holds
 module _ (room : ℕ) (bytes : List ℕ) (len : ℕ) where
@@ -180,6 +180,13 @@ sound-is k q s =
     let n : k .len ≡ length (held 40 (k .bytes) (k .len)) = sym (sound-held 40 (k .bytes) (k .len) q s) in
     λ i. record { bytes = p i; len = n i }
 
+-- the key of a sound record is as many of its first bytes as its length says, and the room has them
+pub sound-front : (k : Key) → length (k .bytes) ≡ 40 → soundKey k ≡ true → (k .len ≤ length (k .bytes)) × (take (k .len) (k .bytes) ≡ keyOf k)
+unfolding keyOf soundKey
+sound-front k q s =
+    let h = sound-len 40 (k .bytes) (k .len) q s in
+    (omega arith, sym (held-in 40 (k .bytes) (k .len) h))
+
 -- ---- user keys
 -- no user key is longer than the room
 pub userOf-length : (u : UserKey) → length (userOf u) ≤ 32
@@ -215,6 +222,13 @@ user-short k = omega (arith, user-length (keyOf k), keyOf-length k)
 pub user-front : (k : Key) → length (k .bytes) ≡ 40 → model.user (keyOf k) ≡ take (length (model.user (keyOf k))) (k .bytes)
 unfolding model.user
 user-front k q = front-front (length (keyOf k) - 8) (keyOf k) (k .bytes) (omega arith) (keyOf-front k q)
+
+-- of a key that is the first m bytes of a room it is the first x
+pub user-taken : (room : List ℕ) (m x : ℕ) → m ≤ length room → x ≡ m - 8 → model.user (take m room) ≡ take x room
+unfolding model.user
+user-taken room m x h e =
+    let n : length (take m room) - 8 ≡ x = omega (arith, length-take m room) in
+    rw n (take-take x m room (omega arith))
 
 -- ---- the trailer
 -- no bytes have type 0
@@ -286,21 +300,21 @@ good-length x g = good-says 32 x g .short
 
 -- ---- how two internal keys stand: by their user keys, then the larger rank first
 module _ (a b : List ℕ) where
-  -- a user key before: the key is before
-  pub before-less : standing model.userBefore (model.user a) (model.user b) ≡ Less → standing model.before a b ≡ Less
+  -- two numbers that differ, and stand as the user keys do, say whether the key is before
+  pub before-users : (x y : ℕ) → (x ≡ y → ⊥) → (x < y → standing model.userBefore (model.user a) (model.user b) ≡ Less)
+      → (y < x → standing model.userBefore (model.user a) (model.user b) ≡ Greater) → ltb x y ≡ model.before a b
   unfolding model.before byFirst
-  before-less e = stands-less model.before a b (rw (standing-less model.userBefore (model.user a) (model.user b) e))
-
-  -- a user key after: the key is after
-  pub before-greater : standing model.userBefore (model.user a) (model.user b) ≡ Greater → standing model.before a b ≡ Greater
-  unfolding model.before byFirst
-  before-greater e =
-      let h = standing-greater model.userBefore (model.user a) (model.user b) e in
-      stands-greater model.before a b (rw (h .0, h .1)) (rw (h .1))
+  before-users x y d l g = go (ltb x y) refl
+    where
+      go : (t : Bool) → ltb x y ≡ t → t ≡ model.before a b
+      go true e = rw (standing-less model.userBefore (model.user a) (model.user b) (l (ltb-true x y e)))
+      go false e =
+          let h = standing-greater model.userBefore (model.user a) (model.user b) (g (omega (arith, ltb-false x y e))) in
+          rw (h .0, h .1)
 
   -- one user key: by rank, the larger first
-  pub before-equal : standing model.userBefore (model.user a) (model.user b) ≡ Equal → standing model.before a b ≡ standing larger (model.rank a) (model.rank b)
-  unfolding standing larger model.before byFirst
-  before-equal e =
+  pub before-ranks : standing model.userBefore (model.user a) (model.user b) ≡ Equal → model.before a b ≡ ltb (model.rank b) (model.rank a)
+  unfolding model.before byFirst
+  before-ranks e =
       let h = standing-equal model.userBefore (model.user a) (model.user b) e in
       rw (h .0, h .1)

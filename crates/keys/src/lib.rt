@@ -3,12 +3,13 @@ ghost use mathlib.Core.Path.{_≡_};
 ghost use mathlib.Core.Bool.{cond};
 ghost use mathlib.Core.List.{[]};
 ghost use lib.Dec.{leb};
-ghost use lib.ListN.{length};
+ghost use Prim.Native.Nat.{_-_, _%_, _≤_};
+ghost use lib.ListN.{length, take};
 ghost use Rattle.lemmas.specs.Lists.{all};
 ghost use Rattle.model.specs.Key as model;
 ghost use Rattle.model.specs.File.{full};
 ghost use Rattle.octets.specs.Octets.{standing, isZero};
-ghost use Rattle.keys.specs.Key.{keyOf, userOf, keyRecord, userRecord, soundKey, soundUser, larger, laid};
+ghost use Rattle.keys.specs.Key.{keyOf, userOf, keyRecord, userRecord, soundKey, soundUser, laid};
 use octets::Order;
 
 // The number of a table file. No call takes it where a sequence number is meant.
@@ -91,26 +92,68 @@ pub fn kind(k: Key) -> u8
     octets::byte(&k.bytes, at)
 }
 
-// The sequence of a key: the trailer without its lowest byte.
-pub fn sequence(k: Key) -> SequenceNumber
-    ensures { λ r. ⌜ r .0 ≡ model.sequence (keyOf k) ⌝ }
+// How many bytes of a key of so many bytes are the user key's: all but the trailer.
+fn without_trailer(n: usize) -> usize
+    ensures { λ r. ⌜ r ≡ n - 8 ⌝ }
 {
-    let stop = user_len(k) + 1;
-    let mut j = key_len(k);
+    if n < Key::TRAILER {
+        return 0;
+    }
+    n - Key::TRAILER
+}
+
+// The sequence of a key that is lent, the first bytes of a room: the trailer without its lowest byte.
+fn sequence_of(a: &[u8], n: usize) -> u64
+    requires { ⌜ n ≤ length (now a) ⌝ }
+    ensures { λ r. ⌜ r ≡ model.sequence (take n (now (a .entry))) ⌝ }
+{
+    let stop = without_trailer(n) + 1;
+    let mut j = n;
     let mut s: u64 = 0;
     while stop < j {
         j -= 1;
-        s = s * 256 + octets::wide(k.bytes[j]);
+        s = s * 256 + octets::wide(a[j]);
     }
-    SequenceNumber(s)
+    s
 }
 
-// What decides between keys of one user key, the larger first: the sequence; the type isn't weighed.
-fn rank(k: Key) -> u64
-    ensures { λ r. ⌜ r ≡ model.rank (keyOf k) ⌝ }
+// The sequence of a key.
+pub fn sequence(k: Key) -> SequenceNumber
+    ensures { λ r. ⌜ r .0 ≡ model.sequence (keyOf k) ⌝ }
 {
-    let s = sequence(k);
-    s.0
+    let n = key_len(k);
+    SequenceNumber(sequence_of(&k.bytes, n))
+}
+
+// What decides between lent keys of one user key, the larger first: the sequence; the type isn't weighed.
+fn rank_of(a: &[u8], n: usize) -> u64
+    requires { ⌜ n ≤ length (now a) ⌝ }
+    ensures { λ r. ⌜ r ≡ model.rank (take n (now (a .entry))) ⌝ }
+{
+    sequence_of(a, n)
+}
+
+// Whether a key is strictly before another, both lent as the first bytes of rooms: by user key, then the larger rank first.
+pub fn precedes(a: &[u8], m: usize, b: &[u8], n: usize) -> bool
+    requires { ⌜ (m ≤ length (now a)) × (length (now a) % 8 ≡ 0) × (n ≤ length (now b)) × (length (now b) % 8 ≡ 0) ⌝ }
+    ensures { λ r. ⌜ r ≡ model.before (take m (now (a .entry))) (take n (now (b .entry))) ⌝ }
+{
+    let x = without_trailer(m);
+    let y = without_trailer(n);
+    let both = octets::lesser(x, y);
+    let mut i: usize = 0;
+    while i < both {
+        let u = octets::front(octets::word(a, i), both - i);
+        let v = octets::front(octets::word(b, i), both - i);
+        if u != v {
+            return u < v;
+        }
+        i += 8;
+    }
+    if x != y {
+        return x < y;
+    }
+    rank_of(b, n) < rank_of(a, m)
 }
 
 // The bytes laid at the start of the output, as many as it has room for; past them the output is as it was.
@@ -140,15 +183,6 @@ pub fn user_key(k: Key) -> UserKey
     UserKey { bytes: out, len: n }
 }
 
-// The order of the user keys of two internal keys.
-pub fn order_of_users(a: Key, b: Key) -> Order
-    ensures { λ r. ⌜ r ≡ standing model.userBefore (model.user (keyOf a)) (model.user (keyOf b)) ⌝ }
-{
-    let m = user_len(a);
-    let n = user_len(b);
-    octets::order_of(&a.bytes, m, &b.bytes, n)
-}
-
 // The order of a user key and the user key of an internal key.
 pub fn order_of_user(u: UserKey, k: Key) -> Order
     ensures { λ r. ⌜ r ≡ standing model.userBefore (userOf u) (model.user (keyOf k)) ⌝ }
@@ -167,40 +201,26 @@ pub fn order_of_user_keys(u: UserKey, v: UserKey) -> Order
     octets::order_of(&u.bytes, m, &v.bytes, n)
 }
 
-// The larger number first.
-fn order_of_ranks(a: u64, b: u64) -> Order
-    ensures { λ r. ⌜ r ≡ standing larger a b ⌝ }
-{
-    if b < a {
-        return Order::Less;
-    }
-    if a < b {
-        return Order::Greater;
-    }
-    Order::Equal
-}
-
-// The order of internal keys: by user key, then the larger rank first.
-pub fn order_of_keys(a: Key, b: Key) -> Order
-    ensures { λ r. ⌜ r ≡ standing model.before (keyOf a) (keyOf b) ⌝ }
-{
-    let u = order_of_users(a, b);
-    match u {
-        Order::Less => Order::Less,
-        Order::Greater => Order::Greater,
-        Order::Equal => {
-            let s = rank(a);
-            let t = rank(b);
-            order_of_ranks(s, t)
-        }
-    }
-}
-
 // Whether a key is strictly before another.
 pub fn is_before(a: Key, b: Key) -> bool
     ensures { λ r. ⌜ r ≡ model.before (keyOf a) (keyOf b) ⌝ }
 {
-    octets::is_less(order_of_keys(a, b))
+    let m = key_len(a);
+    let n = key_len(b);
+    precedes(&a.bytes, m, &b.bytes, n)
+}
+
+// The order of internal keys.
+pub fn order_of_keys(a: Key, b: Key) -> Order
+    ensures { λ r. ⌜ r ≡ standing model.before (keyOf a) (keyOf b) ⌝ }
+{
+    if is_before(a, b) {
+        return Order::Less;
+    }
+    if is_before(b, a) {
+        return Order::Greater;
+    }
+    Order::Equal
 }
 
 // Whether a user key is strictly before the user key of an internal key.

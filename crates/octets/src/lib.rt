@@ -33,14 +33,14 @@ pub fn wide(x: u8) -> u64
 }
 
 // The lesser of two places.
-fn lesser(m: usize, n: usize) -> usize
+pub fn lesser(m: usize, n: usize) -> usize
     ensures { λ r. ⌜ r ≡ min m n ⌝ }
 {
     if n < m { n } else { m }
 }
 
 // The eight bytes from a place on as one number, the first byte the greatest.
-fn word(a: &[u8], at: usize) -> u64
+pub fn word(a: &[u8], at: usize) -> u64
     requires { ⌜ at + 8 ≤ length (now a) ⌝ }
     ensures { λ r. ⌜ r ≡ big 0 (take 8 (drop at (now (a .entry)))) ⌝ }
 {
@@ -54,7 +54,7 @@ fn word(a: &[u8], at: usize) -> u64
 }
 
 // The first bytes of a word, as many of its eight as are asked for.
-fn front(x: u64, c: usize) -> u64
+pub fn front(x: u64, c: usize) -> u64
     requires { ⌜ 0 < c ⌝ }
     ensures { λ r. ⌜ r ≡ x / 256 ^ (8 - c) ⌝ }
 {

@@ -147,7 +147,9 @@ pub fn is_well_formed(r: FileRecord) -> bool
     if !keys::is_good(high) {
         return false;
     }
-    if keys::is_before(high, low) {
+    let m = low.len;
+    let n = high.len;
+    if keys::precedes(&high.bytes, n, &low.bytes, m) {
         return false;
     }
     r.size <= FileRecord::LARGEST_SIZE

@@ -1,23 +1,40 @@
 -- `keys::is_before` meets its contract. Assumes nothing.
-use mathlib.Core.Path.{_∙_, ap}
+use mathlib.Core.Path.{_≡_}
+use native.Mathlib.Omega.{arith}
+use lib.ListN.{length}
 use borrow.Author.Needs.{needs}
-use Rattle.model.specs.Key as model
-use Rattle.octets.specs.Octets.{less}
-use Rattle.octets.specs.Standing.{less-standing}
+use Rattle.lemmas.specs.Fronts.{front-taken}
 use Rattle.keys.specs.Key.{keyOf}
+use Rattle.keys.specs.KeyLaws.{keyOf-length, keyOf-front}
 use Rattle.keys.proofs.is_before.Statement.{statement}
 use Rattle.keys.proofs.is_before.Tie as tie
 
-order-of-keys-requires : tie.Need-order-of-keys-requires
-order-of-keys-requires c κs = search needs
+key-len-requires : tie.Need-key-len-requires
+key-len-requires c κs = search needs
 
-is-less-requires : tie.Need-is-less-requires
-is-less-requires c κs = search needs
+key-len-requires-2 : tie.Need-key-len-requires-2
+key-len-requires-2 c κs = search needs
+
+precedes-requires : tie.Need-precedes-requires
+precedes-requires c κs =
+    let s = c .before .before .before .before .before .before .before .before .args in
+    let full-a : length (s .t1 .bytes) ≡ 40 = search needs in
+    let full-b : length (s .t2 .bytes) ≡ 40 = search needs in
+    let short-a = keyOf-length (s .t1) in
+    let short-b = keyOf-length (s .t2) in
+    (omega arith, omega arith, omega arith, omega arith)
 
 returns : tie.Need-returns
 returns c =
-    let s = c .before .before in
-    c .is-less .ensures ∙ ap less (c .before .order-of-keys .ensures) ∙ less-standing model.before (keyOf (s .args .a)) (keyOf (s .args .b))
+    let q = c .before .before .before .before .before .before .before in
+    let p = q .before in
+    let a = p .before .args .t1 in
+    let b = p .before .args .t2 in
+    let full-a : length (a .bytes) ≡ 40 = search needs in
+    let full-b : length (b .bytes) ≡ 40 = search needs in
+    let left = front-taken (keyOf a) (a .bytes) (p .key-len .result) (keyOf-front a full-a) (p .key-len .ensures) in
+    let right = front-taken (keyOf b) (b .bytes) (q .key-len2 .result) (keyOf-front b full-b) (q .key-len2 .ensures) in
+    rw (← left, ← right) (c .precedes .ensures)
 
 pub is-before-spec : {M : Type 1} → statement M
-is-before-spec = tie.close (tie.spec order-of-keys-requires is-less-requires returns)
+is-before-spec = tie.close (tie.spec key-len-requires key-len-requires-2 precedes-requires returns)
