@@ -38,7 +38,6 @@ use denote.Triple.Clauses.{ensured, lasts}
 use denote.Triple.Table.{entered, cited}
 use denote.Triple.Walked.{says, Stays, stay-ref, stay-none, walkOf, AllGo, goes-none, goes-ref, Walks, ends-at, walked, walk-meets}
 use denote.Exit.{yes}
-use Rattle.answers.specs.declared.Told.{Told}
 use Rattle.answers.proofs.Told as E
 use Rattle.answers.proofs.Told.Laws as E′
 use Rattle.keys.specs.declared.Key.{Key}
@@ -58,6 +57,7 @@ use Rattle.stopping.proofs.answered as callee
 use Rattle.stopping.proofs.answered.Symbol as callee-def
 use Rattle.stopping.proofs.answered.Symbol.{name as #stopping·answered}
 use Rattle.stopping.proofs.answered.Met as callee-thm
+use Rattle.stopping.proofs.Values.{machP, machK, mach, machS, machE}
 use Rattle.stopping.proofs.should_stop_before.Key.{name as #stopping·should-stop-before}
 use Rattle.stopping.proofs.should_stop_before as stop
 use Rattle.stopping.proofs.should_stop_before.Statement as stated
@@ -68,22 +68,6 @@ Arg = Picked × (RefT Cutter × (Key × Unit {0}))
 
 abbrev stayed : Stays (stop.ended .signature .params) (stop.ended .kept)
 stayed = (stay-none (λ _. P.the-row) yes, (stay-ref (0 ∷ []) tt (plain (λ _. T.the-row)), (stay-none (λ _. K.the-row) yes, tt)))
-
--- the machine values: of a picked answer, of a key, of a memory, of what the callee returns, of the answer
-abbrev machP : Picked → Val
-machP = LL.val P.the-type P′.the-laws
-
-abbrev machK : Key → Val
-machK = LL.val K.the-type K′.the-laws
-
-abbrev mach : Cutter → Val
-mach = LL.val T.the-type T′.the-laws
-
-abbrev machS : Stepped → Val
-machS = LL.val S.the-type S′.the-laws
-
-abbrev machE : Told → Val
-machE = EL.val E.the-type E′.the-laws
 
 module _ {M : Type 1} (𝓤 : URA M) (H : Heap 𝓤) (A : Atoms 𝓤) (mem : Memory → SProp 𝓤) (run : Routine → Fun 𝓤) where
   -- the contract that the proof cites

@@ -59,6 +59,7 @@ use Rattle.stopping.proofs.should_stop_before as callee
 use Rattle.stopping.proofs.should_stop_before.Symbol as callee-def
 use Rattle.stopping.proofs.should_stop_before.Symbol.{name as #stopping·should-stop-before}
 use Rattle.stopping.proofs.should_stop_before.Met as callee-thm
+use Rattle.stopping.proofs.Values.{machP, machK, mach, machS, machE}
 use Rattle.stopping.proofs.stopped.Key.{name as #stopping·stopped}
 use Rattle.stopping.proofs.stopped as stopped
 use Rattle.stopping.proofs.stopped.Statement as stated
@@ -72,21 +73,6 @@ Arg = Picked × (Cutter × (Key × Unit {0}))
 
 abbrev stayed : Stays (stopped.ended .signature .params) (stopped.ended .kept)
 stayed = (stay-none (λ _. P.the-row) yes, (stay-none (λ _. R) yes, (stay-none (λ _. K.the-row) yes, tt)))
-
-abbrev machP : Picked → Val
-machP = LL.val P.the-type P′.the-laws
-
-abbrev machK : Key → Val
-machK = LL.val K.the-type K′.the-laws
-
-abbrev mach : Cutter → Val
-mach = LL.val T.the-type T′.the-laws
-
-abbrev machS : Stepped → Val
-machS = LL.val S.the-type S′.the-laws
-
-abbrev machE : Told → Val
-machE = EL.val E.the-type E′.the-laws
 
 -- a local of the struct's type, as what lies in memory, and back
 module _ {M : Type 1} (𝓤 : URA M) (H : Heap 𝓤) (A : Atoms 𝓤) (W : Given 𝓤 H A) (b : ℕ) where
