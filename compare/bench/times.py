@@ -10,7 +10,7 @@ import subprocess
 import sys
 
 SIZES = [16, 64, 200, 256]
-OURS = ['edit', 'pick', 'picks', 'manual', 'manuals', 'overlap', 'lookup', 'search', 'base', 'bases', 'cut', 'advance', 'form', 'write', 'read']
+OURS = ['edit', 'pick', 'manual', 'overlap', 'lookup', 'search', 'base', 'bases', 'cut', 'advance', 'form', 'write', 'read']
 RUST = ['edit', 'pick', 'manual', 'overlap', 'lookup', 'base', 'cut', 'write', 'read']
 
 

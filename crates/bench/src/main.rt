@@ -1,5 +1,5 @@
 // bench OPERATION FILES REPEATS: does an operation so many times on a store of so many files, and prints how many were done. Operations: edit, form, write, read,
-// pick, manual, overlap, lookup, base, cut; picks, manuals, search, bases, advance do as pick, manual, lookup, base and cut with what was tested once.
+// pick, manual, overlap, lookup, base, cut; search, bases, advance do as lookup, base and cut with what was tested once.
 ghost use mathlib.Core.Path.{_≡_};
 ghost use mathlib.Core.Bool.{true};
 ghost use Prim.Native.Nat.{_<_, _≤_};
@@ -16,7 +16,6 @@ use finding::Round;
 use keys::FileNumber;
 use keys::Key;
 use lists::FileList;
-use picked::Pick;
 use picked::Picked;
 use store::Store;
 use store::Stored;
@@ -306,110 +305,23 @@ fn bench_read(files: u64, repeats: u64) -> u64 {
     done
 }
 
-// A size pick, so many times, each on the store that the one before has left.
+// A size pick on a lent store, so many times, each on the store that the one before has left.
 fn bench_pick(files: u64, repeats: u64) -> u64 {
-    let mut s = filled(files, LARGE);
-    let mut done: u64 = 0;
-    let mut k: u64 = 0;
-    while k < repeats {
-        let p = picks::pick_compaction(s, MAXIMUM);
-        let o = p.outcome;
-        s = p.store;
-        if is_done(o) {
-            done = (done + 1) % 1000000000;
-        }
-        k += 1;
-    }
-    done
-}
-
-// A size pick from a store that is known to be well-formed; so is the store that it leaves.
-fn known_pick(s: Store) -> Pick
-    requires { ⌜ wellStore s ≡ true ⌝ }
-    ensures { λ r. ⌜ wellStore (r .store) ≡ true ⌝ }
-{
-    picks::pick_known(s, MAXIMUM)
-}
-
-// Size picks, each from the store that the one before has left; the first store was tested before.
-fn picks_from(start: Store, repeats: u64) -> u64
-    requires { ⌜ wellStore start ≡ true ⌝ }
-{
-    let mut s = start;
-    let mut done: u64 = 0;
-    let mut k: u64 = 0;
-    while k < repeats {
-        let p = known_pick(s);
-        let o = p.outcome;
-        s = p.store;
-        if is_done(o) {
-            done = (done + 1) % 1000000000;
-        }
-        k += 1;
-    }
-    done
-}
-
-// A size pick from a store that was tested once, so many times.
-fn bench_picks(files: u64, repeats: u64) -> u64 {
     let s = filled(files, LARGE);
-    if store::is_well_formed(s) {
-        return picks_from(s, repeats);
-    }
-    0
+    taking::pick_many(s, MAXIMUM, repeats % 1000000000)
 }
 
-// A manual pick at level 2 of the whole range from a store that is known to be well-formed; so is the store that it leaves.
-fn known_manual(s: Store) -> Pick
-    requires { ⌜ wellStore s ≡ true ⌝ }
-    ensures { λ r. ⌜ wellStore (r .store) ≡ true ⌝ }
-{
-    picks::compact_known(s, MAXIMUM, 2, cam_key(0), cam_key(9999))
-}
-
-// Such picks, each from the store that the one before has left; the first store was tested before.
-fn manuals_from(start: Store, repeats: u64) -> u64
-    requires { ⌜ wellStore start ≡ true ⌝ }
-{
-    let mut s = start;
-    let mut done: u64 = 0;
-    let mut k: u64 = 0;
-    while k < repeats {
-        let p = known_manual(s);
-        let o = p.outcome;
-        s = p.store;
-        if is_done(o) {
-            done = (done + 1) % 1000000000;
-        }
-        k += 1;
-    }
-    done
-}
-
-// A manual pick from a store that was tested once, so many times.
-fn bench_manuals(files: u64, repeats: u64) -> u64 {
-    let s = filled(files, LARGE);
-    if store::is_well_formed(s) {
-        return manuals_from(s, repeats);
-    }
-    0
-}
-
-// A manual pick at level 2 of the whole range, so many times.
+// A manual pick at level 2 of the whole range on a lent store, so many times.
 fn bench_manual(files: u64, repeats: u64) -> u64 {
-    let mut s = filled(files, LARGE);
-    let mut done: u64 = 0;
-    let mut k: u64 = 0;
-    while k < repeats {
-        let p = picks::compact_range(s, MAXIMUM, 2, cam_key(0), cam_key(9999));
-        let o = p.outcome;
-        s = p.store;
-        if is_done(o) {
-            done = (done + 1) % 1000000000;
-        }
-        k += 1;
-    }
-    done
+    let s = filled(files, LARGE);
+    taking::compact_many(
+        s,
+        MAXIMUM,
+        2,
+        cam_key(0),
+        cam_key(9999),
+        repeats % 1000000000,
+    )
 }
 
 // The number of the k-th key of those asked in no order.
@@ -428,7 +340,7 @@ fn bench_overlap(files: u64, repeats: u64) -> u64 {
     let mut done: u64 = 0;
     let mut k: u64 = 0;
     while k < repeats {
-        let l = gathering::overlapping_inputs(s, 2, cam_key(scattered(k)), cam_key(scattered(k)));
+        let l = overlaps::overlapping_inputs(s, 2, cam_key(scattered(k)), cam_key(scattered(k)));
         let o = l.outcome;
         if is_done(o) {
             done = (done + 1) % 1000000000;
@@ -652,12 +564,6 @@ fn is_operation(word: &[u8], n: usize, text: &[u8]) -> bool {
 
 // Picks from and questions of what was tested once.
 fn run_known(word: &[u8], n: usize, files: u64, repeats: u64) -> u64 {
-    if is_operation(word, n, b"picks") {
-        return bench_picks(files, repeats);
-    }
-    if is_operation(word, n, b"manuals") {
-        return bench_manuals(files, repeats);
-    }
     if is_operation(word, n, b"search") {
         return bench_search(files, repeats);
     }

@@ -1,119 +1,272 @@
-// The rest of a pick from its first inputs. The inputs are places in the store's array until the picked files are copied, once.
+// The searches of a pick, one after another: first inputs by a range, second inputs, growth, grandparents; and the files that they chose, copied once.
 ghost use mathlib.Core.Path.{_≡_};
 ghost use mathlib.Core.Bool.{true};
 ghost use Prim.Native.Nat.{_+_, _<_, _≤_};
-ghost use Rattle.model.specs.Answer.{gives};
-ghost use Rattle.model.specs.File.{full, setPointer};
-ghost use Rattle.model.specs.Pick as model;
-ghost use Rattle.keys.specs.Key.{keyOf};
-ghost use Rattle.store.specs.Store.{stateOf, storeOf, wellStore};
-ghost use Rattle.picked.specs.Picked.{causeOf, pickOf};
-ghost use Rattle.ranges.specs.Ranges.{spanOf};
-ghost use Rattle.gathering.specs.Places.{inputsOf, Held};
-ghost use Rattle.gathering.specs.Found.{Known};
-use answers::Outcome;
+ghost use Rattle.lemmas.specs.Lists.{sum};
+ghost use Rattle.store.specs.Store.{wellStore};
+ghost use Rattle.completing.specs.Choice.{begun, askedLevel, askedSpan, askedMost, questionOf, growsBy, filledWith, runsOf, placeIn, firsts, Stands, laidChoice};
 use gathering::Found;
-use gathering::Places;
-use keys::Key;
-use picked::Cause;
-use picked::Pick;
-use picked::Picked;
 use ranges::Span;
+use records::FileRecord;
 use records::Level;
-use store::Pointer;
 use store::Store;
 
-// The inputs of a pick may grow while their bytes are below so many times the maximum file size.
-const GROWTH_TIMES: u64 = 25;
-
-// The level's files overlapping the joint range in place of the first inputs, if they are more in number, their bytes and the second inputs' together are
-// below 25 M, and their own range overlaps equally many files of level + 1. For callers of this repository, who have tested the store, M and the level.
-fn grown_first(s: Store, maximum: u64, level: usize, first: Found, second: Found) -> Found
-    requires { ⌜ (wellStore s ≡ true) × (level < 6) × (maximum ≤ 4294967296) × Known s level first × Known s (level + 1) second ⌝ }
-    ensures { λ r. ⌜ Known s level r × (inputsOf s (r .places) ≡ model.grownFirst (stateOf s) maximum level (inputsOf s (first .places)) (inputsOf s (second .places))) ⌝ }
-{
-    if second.places.count == 0 {
-        return first;
-    }
-    let both = gathering::joint_range(first, second);
-    let grown = gathering::found_in(s, level, both, Found::ALL);
-    if grown.places.count <= first.places.count {
-        return first;
-    }
-    if GROWTH_TIMES * maximum <= grown.bytes + second.bytes {
-        return first;
-    }
-    let own = gathering::range_of(grown);
-    let again = gathering::found_in(s, level + 1, own, Found::ALL);
-    if again.places.count != second.places.count {
-        return first;
-    }
-    grown
+// A pick on its way: its level and maximum file size, the range and the limit of bytes that its first inputs are asked by, and what was found so far.
+pub struct Choice {
+    pub level: usize,
+    pub maximum: u64,
+    pub span: Span,
+    pub most: u64,
+    pub first: Found,
+    pub second: Found,
+    pub grown: Found,
+    pub grand: Found,
 }
 
-// The grandparents: the files of level + 2 overlapping a range; level 5 has none.
-fn grandparents(s: Store, level: usize, span: Span) -> Places
-    requires { ⌜ (wellStore s ≡ true) × (level < 6) ⌝ }
-    ensures { λ r. ⌜ Held s (level + 2) r × (inputsOf s r ≡ model.grandOf full (stateOf s) level (spanOf span)) ⌝ }
-{
-    if Level::COUNT <= level + 2 {
-        return Places {
-            at: [0usize; 256],
-            count: 0,
-        };
-    }
-    let found = gathering::found_in(s, level + 2, span, Found::ALL);
-    found.places
+impl Choice {
+    // How many searches a pick makes.
+    pub const SEARCHES: usize = 5;
+    // The inputs of a pick may grow while their bytes are below so many times the maximum file size.
+    pub const GROWTH_TIMES: u64 = 25;
 }
 
-// The store with a level's pointer set. For callers of this repository, who have tested the store and the level.
-fn with_pointer(s: Store, level: usize, key: Key) -> Store
-    requires { ⌜ (wellStore s ≡ true) × (level < 7) ⌝ }
-    ensures { λ r. ⌜ r ≡ storeOf (setPointer (stateOf s) level (keyOf key)) ⌝ }
-{
-    let kept = keys::kept(key);
-    let mut pointers = s.pointers;
-    pointers[level] = Pointer {
-        set: true,
-        key: kept,
-    };
-    let mut t = s;
-    t.pointers = pointers;
-    t
+// What was chosen, and its files: first inputs, second inputs and grandparents one after another with blank records past them.
+pub struct Chosen {
+    pub files: [FileRecord; 256],
+    pub choice: Choice,
 }
 
-// The rest of a pick from its first inputs: second inputs, growth, grandparents, and the level's pointer at the first inputs' largest key.
-// For callers of this repository, who have tested the store, M and the level.
-pub fn complete(s: Store, maximum: u64, cause: Cause, level: usize, first: Found) -> Pick
-    requires { ⌜ (wellStore s ≡ true) × (level < 6) × (maximum ≤ 4294967296) × Known s level first ⌝ }
-    ensures { λ r. ⌜ r ≡ pickOf s (gives (model.complete full (stateOf s) maximum (causeOf cause) level (inputsOf s (first .places)))) ⌝ }
+// What a search asks for: the places of a level, whether its range is widened, the range, and a limit of bytes.
+pub struct Question {
+    pub from: usize,
+    pub to: usize,
+    pub widens: bool,
+    pub span: Span,
+    pub most: u64,
+}
+
+// Three runs of places, one after another: where each starts, and how many places there are up to its end.
+pub struct Runs {
+    pub first: usize,
+    pub one: usize,
+    pub second: usize,
+    pub two: usize,
+    pub third: usize,
+    pub three: usize,
+}
+
+// A pick of which nothing was found so far.
+pub fn asking(level: usize, maximum: u64, span: Span, most: u64) -> Choice
+    ensures { λ r. ⌜ r ≡ begun level maximum span most ⌝ }
 {
-    let span = gathering::range_of(first);
-    let second = gathering::found_in(s, level + 1, span, Found::ALL);
-    let chosen = grown_first(s, maximum, level, first, second);
-    let both = gathering::joint_range(chosen, second);
-    let grand = grandparents(s, level, both);
-    let a = chosen.places;
-    let b = second.places;
-    let inputs = gathering::joined(a, b);
-    let all = gathering::joined(inputs, grand);
-    let list = gathering::list_at(s, all);
-    let laid = list.files;
-    let ends = chosen.ends;
-    let high = ends.high;
-    let outcome = Outcome::Done;
-    let picked = Picked {
+    let none = gathering::nothing_at(0);
+    Choice {
         level: level,
-        cause: cause,
         maximum: maximum,
-        files: laid,
-        first: a.count,
-        second: b.count,
-        grand: grand.count,
-    };
-    Pick {
-        outcome: outcome,
-        picked: picked,
-        store: with_pointer(s, level, high),
+        span: span,
+        most: most,
+        first: none,
+        second: none,
+        grown: none,
+        grand: none,
     }
+}
+
+// The level that the k-th search asks: the pick's for first inputs and growth, the next one for second inputs and whether growth keeps them, the one after for grandparents.
+fn asked_level(level: usize, k: usize) -> usize
+    requires { ⌜ (level < 7) × (k < 5) ⌝ }
+    ensures { λ r. ⌜ r ≡ askedLevel level k ⌝ }
+{
+    if k == 0 {
+        return level;
+    }
+    if k == 1 {
+        return level + 1;
+    }
+    if k == 2 {
+        return level;
+    }
+    if k == 3 {
+        return level + 1;
+    }
+    level + 2
+}
+
+// The range that the k-th search asks by: that of the pick, of the first inputs, of the grown ones, or the joint range of first and second inputs.
+fn asked_span(c: Choice, k: usize) -> Span
+    requires { ⌜ k < 5 ⌝ }
+    ensures { λ r. ⌜ r ≡ askedSpan c k ⌝ }
+{
+    if k == 0 {
+        return c.span;
+    }
+    let first = c.first;
+    if k == 1 {
+        return gathering::range_of(first);
+    }
+    if k == 3 {
+        let grown = c.grown;
+        return gathering::range_of(grown);
+    }
+    let second = c.second;
+    gathering::joint_range(first, second)
+}
+
+// The limit of bytes of the k-th search: only first inputs have one.
+fn asked_most(c: Choice, k: usize) -> u64
+    ensures { λ r. ⌜ r ≡ askedMost c k ⌝ }
+{
+    if k == 0 {
+        return c.most;
+    }
+    Found::ALL
+}
+
+// The k-th search of a pick. For callers of this repository, whose counts are within the room.
+fn asked(c: Choice, k: usize, counts: [usize; 7]) -> Question
+    requires { ⌜ (c .level < 7) × (k < 5) × (sum counts ≤ 256) ⌝ }
+    ensures { λ r. ⌜ r ≡ questionOf c k counts ⌝ }
+{
+    let level = asked_level(c.level, k);
+    let mut from: usize = 0;
+    let mut to: usize = 0;
+    if level < Level::COUNT {
+        from = levels::start_of(counts, level);
+        to = from + counts[level];
+    }
+    let span = asked_span(c, k);
+    Question {
+        from: from,
+        to: to,
+        widens: level == 0,
+        span: span,
+        most: asked_most(c, k),
+    }
+}
+
+// Whether the grown files replace the first inputs: there are second inputs, the grown files are more in number, their bytes and the second inputs' together are
+// below 25 M, and their own range overlaps equally many files of level + 1. For callers of this repository, whose M and files are in range.
+fn grows(c: Choice, again: usize) -> bool
+    requires { ⌜ (c .maximum ≤ 4294967296) × (c .grown .bytes ≤ 281474976710656) × (c .second .bytes ≤ 281474976710656) ⌝ }
+    ensures { λ r. ⌜ r ≡ growsBy c again ⌝ }
+{
+    if c.second.count == 0 {
+        return false;
+    }
+    if c.grown.count <= c.first.count {
+        return false;
+    }
+    if Choice::GROWTH_TIMES * c.maximum <= c.grown.bytes + c.second.bytes {
+        return false;
+    }
+    again == c.second.count
+}
+
+// What the k-th search found, kept: by the fourth the grown files take the place of the first inputs, or not. For callers of this repository, as above.
+fn filled(c: Choice, k: usize, found: Found) -> Choice
+    requires { ⌜ (k < 5) × (c .maximum ≤ 4294967296) × (c .grown .bytes ≤ 281474976710656) × (c .second .bytes ≤ 281474976710656) ⌝ }
+    ensures { λ r. ⌜ r ≡ filledWith c k found ⌝ }
+{
+    let mut d = c;
+    if k == 0 {
+        d.first = found;
+        return d;
+    }
+    if k == 1 {
+        d.second = found;
+        return d;
+    }
+    if k == 2 {
+        d.grown = found;
+        return d;
+    }
+    if k == 3 {
+        if grows(c, found.count) {
+            let grown = c.grown;
+            d.first = grown;
+        }
+        return d;
+    }
+    d.grand = found;
+    d
+}
+
+// The runs of what was chosen. For callers of this repository, whose counts are within the room.
+fn runs_of(c: Choice) -> Runs
+    requires { ⌜ c .first .count + c .second .count + c .grand .count ≤ 256 ⌝ }
+    ensures { λ r. ⌜ r ≡ runsOf c ⌝ }
+{
+    let n = c.first.count;
+    let m = n + c.second.count;
+    Runs {
+        first: c.first.from,
+        one: n,
+        second: c.second.from,
+        two: m,
+        third: c.grand.from,
+        three: m + c.grand.count,
+    }
+}
+
+// The j-th place of three runs. For callers of this repository, whose places are within the room.
+fn place_of(r: Runs, j: usize) -> usize
+    requires { ⌜ (j < 256) × (r .first ≤ 256) × (r .second ≤ 256) × (r .third ≤ 256) ⌝ }
+    ensures { λ i. ⌜ i ≡ placeIn r j ⌝ }
+{
+    if j < r.one {
+        return r.first + j;
+    }
+    if j < r.two {
+        return r.second + (j - r.one);
+    }
+    r.third + (j - r.two)
+}
+
+// The searches of a pick from the start-th up to the end-th, one after another: of a level, at level 0 by the least widening of the range, first the files that
+// end before the range are passed, by halves, then those up to the first that begins after it are taken. The array goes to no function but at level 0: each would copy it.
+// For callers of this repository, who have tested the store, M and the level.
+pub fn choose(s: Store, c: Choice, start: usize, end: usize) -> Chosen
+    requires { ⌜ (wellStore s ≡ true) × (c .level < 7) × (c .maximum ≤ 4294967296) × (start ≤ end) × (end ≤ 5) × Stands s (firsts s start c) start c ⌝ }
+    ensures { λ r. ⌜ Stands s (firsts s start c) end (r .choice) × (r .files ≡ laidChoice s (r .choice)) × (r .choice .level ≡ c .level) × (r .choice .maximum ≡ c .maximum) ⌝ }
+{
+    let files = s.files;
+    let counts = s.counts;
+    let mut d = c;
+    let mut k = start;
+    while k < end {
+        let q = asked(d, k, counts);
+        let mut span = q.span;
+        if q.widens {
+            span = ranges::widened(files, q.from, q.to, span);
+        }
+        let mut lo = q.from;
+        let mut hi = q.to;
+        while lo < hi {
+            let m = lo + (hi - lo) / 2;
+            let f = files[m];
+            if keys::user_is_after(span.start, f.largest) {
+                lo = m + 1;
+            } else {
+                hi = m;
+            }
+        }
+        let mut found = gathering::nothing_at(lo);
+        while lo < q.to && gathering::is_taken(found.bytes, q.most, span.stop, files[lo]) {
+            found = gathering::with_file(found, files[lo]);
+            lo += 1;
+        }
+        d = filled(d, k, found);
+        k += 1;
+    }
+    let runs = runs_of(d);
+    let mut r = Chosen {
+        files: records::blanks(),
+        choice: d,
+    };
+    let mut j: usize = 0;
+    while j < runs.three {
+        r.files[j] = files[place_of(runs, j)];
+        j += 1;
+    }
+    r
 }

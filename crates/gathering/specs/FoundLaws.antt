@@ -1,23 +1,18 @@
--- Laws of files found: the ends of two lists joined, and a search over a run in order of smallest keys, turn by turn. Assumes nothing.
+-- Laws of files found: the ends of two lists joined, the bytes of files, and what is found at a level of a well-formed store. Assumes nothing.
 use Prim.Native.Nat.{ℕ, zero, suc, _+_, _^_, _≤_, _<_}
-use mathlib.Core.Path.{_≡_, refl, sym, ap, subst, _∙_}
-use mathlib.Core.Bool.{Bool, true, false, not, cond, _&&_, _||_}
-use mathlib.Core.Logic.{⊎-elim}
-use mathlib.Core.List.{List, [], _∷_, _++_, map, map-append, append-assoc, append-nil, List·Memᴰ as In, List·Memᴰ·append-cases as append-cases, List·Memᴰ·eq-of-singleton as in-one, List·Memᴰ·not-nil as not-nil}
+use mathlib.Core.Path.{_≡_, refl, sym, ap, _∙_}
+use mathlib.Core.Bool.{Bool, true, false, cond}
+use mathlib.Core.List.{List, [], _∷_, _++_, map, map-append, append-nil}
 use native.Mathlib.Omega.{arith}
-use native.Mathlib.Numerals.{add-one}
-use lib.Dec.{ltb}
-use borrow.Author.Tests.{lt-ltb, le-ltb, ltb-true, ltb-false, not-true}
-use lib.ListN.{length, getD, take, set, replicate, length-set, length-replicate}
-use lib.Seq.{take-suc-set, length-take-le}
-use Rattle.lemmas.specs.Lists.{chain, keep, sum, push, find}
-use Rattle.lemmas.specs.ListLaws.{and-left, and-right, chain-rest, Sub, sub-all}
-use Rattle.lemmas.specs.Loops.{keep-here, keep-later}
-use Rattle.lemmas.specs.Slices.{sum-append}
+use borrow.Author.Tests.{le-ltb}
+use lib.ListN.{length}
+use Rattle.lemmas.specs.Lists.{keep, sum}
+use Rattle.lemmas.specs.ListLaws.{Sub}
+use Rattle.lemmas.specs.Slices.{sum-append, length-view}
 use Rattle.lemmas.specs.Order.{StrictWeak, clash, lt-le, flip-order}
-use Rattle.model.specs.File.{File, full, level, total, bySmallest, maxSize}
-use Rattle.model.specs.Formed.{formed-says, goodFile-says, goodFile-order, levels-sorted}
-use Rattle.model.specs.Key.{Key, user, userBefore, before, before-order, userBefore-order, before-user}
+use Rattle.model.specs.File.{File, full, level, total, maxSize}
+use Rattle.model.specs.Formed.{formed-says, goodFile-says}
+use Rattle.model.specs.Key.{Key, before, before-order}
 use Rattle.model.specs.Pick.{upTo}
 use Rattle.model.specs.PickLaws.{overlapping-sub}
 use Rattle.model.specs.PickedLaws.{GoodLevel, goodLevel-says, part-good}
@@ -27,7 +22,6 @@ use Rattle.model.specs.RangeLaws.{smallestOf, largestOf, low-fold, high-fold}
 use Rattle.keys.specs.declared.Key as keys
 use Rattle.keys.specs.Key.{keyOf}
 use Rattle.records.specs.Record.{fileOf}
-use Rattle.records.specs.RecordLaws.{past, run-turn, run-ended, total-turn, total-ended}
 use Rattle.records.specs.Run.{run}
 use Rattle.records.specs.declared.Ends.{Ends}
 use Rattle.records.specs.declared.FileRecord.{FileRecord}
@@ -37,11 +31,8 @@ use Rattle.store.specs.StoreLaws as store
 use Rattle.ranges.specs.Ranges.{spanOf, spanRecord}
 use Rattle.ranges.specs.RangesLaws.{span-between}
 use Rattle.gathering.specs.declared.Found.{Found}
-use Rattle.gathering.specs.declared.Places.{Places}
-use Rattle.gathering.specs.Places.{listedAt, fileAt, filesAt, startAt, endAt, inputsOf, Held}
-use Rattle.gathering.specs.CallsLaws.{level-run, level-ends, files-room}
-use Rattle.gathering.specs.PlacesLaws.{files-append, files-length}
-use Rattle.gathering.specs.Found.{lowWith, highWith, rising, Ordered, Summed, Gathered, Gathering, restTo, Known, rangeFound, jointFound}
+use Rattle.gathering.specs.CallsLaws.{level-ends, files-room}
+use Rattle.gathering.specs.Found.{lowWith, highWith, startAt, endAt, Summed, Gathered, inputsOf, Held, Known, rangeFound, jointFound}
 
 -- ---- the first of the least of three, whichever two are looked at first
 module _ {A : Type 0} (lt : A → A → Bool) (o : StrictWeak lt) where
@@ -164,84 +155,14 @@ unfolding largestOf
 high-one f = high-fold f []
 
 -- ---- files up to a total
--- one that brings it above, or not, and what is taken of the rest
-up-next : (m t : ℕ) (f : File) (fs : List File) → upTo m t (f ∷ fs) ≡ f ∷ restTo m (t + f .size) fs
-unfolding upTo restTo
-up-next m t f fs = refl
-
--- none is taken above the limit
-rest-above : (m t : ℕ) (fs : List File) → m < t → restTo m t fs ≡ []
-unfolding restTo
-rest-above m t fs h = rw (lt-ltb m t h)
-
--- up to the limit all that `upTo` takes
-rest-below : (m t : ℕ) (fs : List File) → t ≤ m → restTo m t fs ≡ upTo m t fs
-unfolding restTo
-rest-below m t fs h = rw (le-ltb m t h)
-
--- of no files none
-rest-none : (m t : ℕ) → restTo m t [] ≡ []
-unfolding restTo upTo
-rest-none m t = go (ltb m t)
-  where
-    go : (b : Bool) → _≡_ {A = List File} (cond b [] []) []
-    go true = refl
-    go false = refl
-
 -- a total that none brings it above
 pub up-all : (m t : ℕ) (fs : List File) → t + total fs ≤ m → upTo m t fs ≡ fs
 unfolding upTo total sum
 up-all m t [] h = refl
 up-all m t (f ∷ fs) h = ap (λ (gs : List File). f ∷ gs) (rw (le-ltb m (t + f .size) (omega arith)) (up-all m (t + f .size) fs (omega arith)))
 
--- neither of what ends a search
-pub goes-on : (m t : ℕ) (b : Bool) → (ltb m t || b) ≡ false → (t ≤ m) × (b ≡ false)
-goes-on m t b h = go (ltb m t) refl h
-  where
-    go : (u : Bool) → ltb m t ≡ u → (u || b) ≡ false → (t ≤ m) × (b ≡ false)
-    go true e v = clash refl v
-    go false e v = (ltb-false m t e, v)
-
--- ---- after a file that begins after a range none overlaps
-module _ (r : Range) where
-  abbrev pub begins-after : File → Bool
-  begins-after f = userBefore (r .stop) (user (f .smallest))
-
-  -- it does not overlap
-  after-none : (f : File) → begins-after f ≡ true → overlaps r f ≡ false
-  unfolding overlaps
-  after-none f h = rw h (go (not (userBefore (user (f .largest)) (r .start))))
-    where
-      go : (b : Bool) → (b && false) ≡ false
-      go true = refl
-      go false = refl
-
-  -- one that does not, by its largest key
-  pub over-taken : (f : File) → begins-after f ≡ false → userBefore (user (f .largest)) (r .start) ≡ false → overlaps r f ≡ true
-  unfolding overlaps
-  over-taken f a b = rw (a, b)
-
-  pub over-passed : (f : File) → userBefore (user (f .largest)) (r .start) ≡ true → overlaps r f ≡ false
-  unfolding overlaps
-  over-passed f b = rw b
-
-  -- nor does the next begin before the range's end
-  after-next : (f g : File) → not (bySmallest g f) ≡ true → begins-after f ≡ true → begins-after g ≡ true
-  unfolding bySmallest
-  after-next f g n h =
-      lt-le userBefore userBefore-order (r .stop) (user (f .smallest)) (user (g .smallest)) h
-      (before-user (f .smallest) (g .smallest) (not-true (before (g .smallest) (f .smallest)) n))
-
-  pub none-after : (f : File) (fs : List File) → rising (f ∷ fs) → begins-after f ≡ true → keep (overlaps r) (f ∷ fs) ≡ []
-  unfolding chain keep push
-  none-after f [] c h = rw (after-none f h)
-  none-after f (g ∷ gs) c h =
-      rw (after-none f h)
-      (none-after g gs (and-right (not (bySmallest g f)) (chain (λ f g. not (bySmallest g f)) (g ∷ gs)) c)
-      (after-next f g (and-left (not (bySmallest g f)) (chain (λ f g. not (bySmallest g f)) (g ∷ gs)) c) h))
-
 -- ---- the bytes of two lists
-total-joined : (fs gs : List File) → total (fs ++ gs) ≡ total fs + total gs
+pub total-joined : (fs gs : List File) → total (fs ++ gs) ≡ total fs + total gs
 unfolding total
 total-joined fs gs = ap sum (map-append (λ (f : File). f .size) fs gs) ∙ sum-append (map (λ (f : File). f .size) fs) (map (λ (f : File). f .size) gs)
 
@@ -259,155 +180,22 @@ summed-more fs n f ends more bytes e s l h =
       bytes-are = omega (arith, total-joined fs (f ∷ []), s .bytes-are);
     }
 
--- a place more, a file more
-one-file : (files : List FileRecord) (fs : List File) (i : ℕ) → fs ++ filesAt files (i ∷ []) ≡ fs ++ (fileOf (getD files i past) ∷ [])
-unfolding filesAt fileAt
-one-file files fs i = refl
-
 -- one file alone
 pub summed-one : (f : FileRecord) → Summed (fileOf f ∷ []) (record { low = f .smallest; high = f .largest }) (f .size)
 unfolding total sum fileOf
 summed-one f = record { low = sym (low-one (fileOf f)); high = sym (high-one (fileOf f)); bytes-are = omega arith }
 
--- ---- a search over a run, turn by turn
-module _ (files : List FileRecord) (from to most : ℕ) (r : Range) where
-  -- at the start nothing is taken
-  pub gather-start : (ends : Ends) → Ordered files from to → keyOf (ends .low) ≡ [] → keyOf (ends .high) ≡ [] → Gathering files from to most r (replicate 256 0) ends 0 0 from
-  unfolding filesAt lowKey highKey find total sum
-  gather-start ends o l h = record {
-    few = omega arith;
-    stays = o .within;
-    array = length-replicate {A = ℕ} 256 0;
-    below = λ j m. absurd (not-nil m);
-    sums = record { low = l; high = h; bytes-are = refl };
-    small = omega (arith, o .small);
-    order = o .order;
-    rest = rest-below most 0 (keep (overlaps r) (run from to files)) (omega arith);
-  }
-
-  module _ (at : List ℕ) (ends : Ends) (n bytes i : ℕ) (g : Gathering files from to most r at ends n bytes i) (h : i < to) (q : to ≤ length files) where
-    abbrev now : File
-    now = fileOf (getD files i past)
-
-    abbrev turn : run i to files ≡ now ∷ run (i + 1) to files
-    turn = run-turn i to files h q
-
-    later : rising (run (i + 1) to files)
-    later = chain-rest (λ f g. not (bySmallest g f)) now (run (i + 1) to files) (subst (λ (fs : List File). rising fs) turn (g .order))
-
-    -- the file at i does not overlap
-    pub gather-passed : overlaps r now ≡ false → Gathering files from to most r at ends n bytes (i + 1)
-    unfolding fileOf
-    gather-passed o =
-        let few = g .few in
-        let small = g .small in
-        record {
-          few = omega arith;
-          stays = omega arith;
-          array = g .array;
-          below = g .below;
-          sums = g .sums;
-          small = omega (arith, total-turn i to files h q);
-          order = later;
-          rest = ap (λ (fs : List File). filesAt files (take n at) ++ restTo most bytes fs) (sym (keep-later (overlaps r) (run i to files) (run (i + 1) to files) now turn o)) ∙ g .rest;
-        }
-
-    -- it overlaps and is taken
-    pub gather-taken : to ≤ 256 → bytes ≤ most → overlaps r now ≡ true → (more : Ends)
-        → keyOf (more .low) ≡ lowWith n (keyOf (ends .low)) 1 (now .smallest) → keyOf (more .high) ≡ highWith n (keyOf (ends .high)) 1 (now .largest)
-        → Gathering files from to most r (set at n i) more (n + 1) (bytes + now .size) (i + 1)
-    unfolding fileOf
-    gather-taken room b o more l u =
-        let few = g .few in
-        let small = g .small in
-        let array = g .array in
-        let fits : n < length at = omega arith in
-        let taken = filesAt files (take n at) in
-        let rest = keep (overlaps r) (run (i + 1) to files) in
-        let front : take (n + 1) (set at n i) ≡ take n at ++ (i ∷ []) = rw (add-one n) (take-suc-set at n i fits) in
-        let all : filesAt files (take (n + 1) (set at n i)) ≡ taken ++ (now ∷ []) = ap (filesAt files) front ∙ files-append files (take n at) (i ∷ []) ∙ one in
-        let size : length taken ≡ n = files-length files (take n at) ∙ length-take-le n at (omega arith) in
-        record {
-          few = omega arith;
-          stays = omega arith;
-          array = length-set at n i ∙ array;
-          below = λ j m. ⊎-elim (λ z. g .below j z) (λ z. let e = in-one z in omega arith) (append-cases (take n at) (subst (λ (l : List ℕ). In j l) front m));
-          sums = rw all (summed-more taken n now ends more bytes size (g .sums) l u);
-          small = omega (arith, total-turn i to files h q);
-          order = later;
-          rest = rw all
-              (append-assoc taken (now ∷ []) (restTo most (bytes + now .size) rest)
-              ∙ ap (λ (fs : List File). taken ++ fs) (sym (up-next most bytes now rest) ∙ sym (rest-below most bytes (now ∷ rest) b) ∙ ap (restTo most bytes) (sym (keep-here (overlaps r) (run i to files) (run (i + 1) to files) now turn o)))
-              ∙ g .rest);
-        }
-      where
-        one : filesAt files (take n at) ++ filesAt files (i ∷ []) ≡ filesAt files (take n at) ++ (fileOf (getD files i past) ∷ [])
-        one = one-file files (filesAt files (take n at)) i
-
-    -- nothing of the rest is taken
-    stopped : restTo most bytes (keep (overlaps r) (run i to files)) ≡ [] → Gathering files from to most r at ends n bytes to
-    unfolding keep chain total sum
-    stopped e =
-        let few = g .few in
-        let small = g .small in
-        let ended = run-ended to to files (omega arith) in
-        record {
-          few = omega arith;
-          stays = omega arith;
-          array = g .array;
-          below = g .below;
-          sums = g .sums;
-          small = omega (arith, total-ended to to files (omega arith));
-          order = rw ended;
-          rest = ap (λ (fs : List File). filesAt files (take n at) ++ fs) (ap (λ (fs : List File). restTo most bytes (keep (overlaps r) fs)) ended ∙ rest-none most bytes ∙ sym e) ∙ g .rest;
-        }
-
-    -- the file at i begins after the range
-    past-end : userBefore (r .stop) (user (now .smallest)) ≡ true → Gathering files from to most r at ends n bytes to
-    past-end b =
-        let none : keep (overlaps r) (run i to files) ≡ [] = rw turn (none-after r now (run (i + 1) to files) (subst (λ (fs : List File). rising fs) turn (g .order)) b) in
-        stopped (ap (restTo most bytes) none ∙ rest-none most bytes)
-
-    -- it does so, or the bytes are above the limit
-    pub gather-stops : (b : Bool) → b ≡ userBefore (r .stop) (user (now .smallest)) → (ltb most bytes || b) ≡ true → Gathering files from to most r at ends n bytes to
-    gather-stops b e h = go (ltb most bytes) refl h
-      where
-        go : (t : Bool) → ltb most bytes ≡ t → (t || b) ≡ true → Gathering files from to most r at ends n bytes to
-        go true u v = stopped (rest-above most bytes (keep (overlaps r) (run i to files)) (ltb-true most bytes u))
-        go false u v = past-end (sym e ∙ v)
-
-  -- at the end all are taken
-  pub gather-end : (at : List ℕ) (ends : Ends) (n bytes i : ℕ) → Gathering files from to most r at ends n bytes i → to ≤ i
-      → filesAt files (take n at) ≡ upTo most 0 (keep (overlaps r) (run from to files))
-  unfolding keep
-  gather-end at ends n bytes i g h =
-      sym (ap (λ (fs : List File). filesAt files (take n at) ++ restTo most bytes (keep (overlaps r) fs)) (run-ended i to files h) ∙ ap (λ (fs : List File). filesAt files (take n at) ++ fs) (rest-none most bytes)
-      ∙ append-nil (filesAt files (take n at)))
-      ∙ g .rest
-
 -- ---- files found at a level of a well-formed store
 module _ (s : Store) (n : ℕ) where
   module _ (h : wellStore s ≡ true) (k : n < 7) where
     -- some files of the level are good, and their bytes are few
-    level-part : (fs : List File) → Sub fs (level (stateOf s) n) → GoodLevel full n fs × (total fs ≤ 2 ^ 48)
+    pub level-part : (fs : List File) → Sub fs (level (stateOf s) n) → GoodLevel full n fs × (total fs ≤ 2 ^ 48)
     unfolding full maxSize
     level-part fs b =
         let w = formed-says full (stateOf s) .0 (store.well-says s .0 h .formed) in
         let g = goodLevel-says full n fs .0 (part-good full (stateOf s) n fs w (omega arith) b) in
         let room = g .room in
         (g, omega (arith, total-most fs (λ f m. goodFile-says full f .0 (g .good f m) .size)))
-
-    -- the level is a run in order
-    pub level-ordered : length (s .counts) ≡ 7 → Ordered (s .files) (startAt s n) (endAt s n)
-    level-ordered q =
-        let is = level-run s n (omega arith) in
-        let g = level-part (level (stateOf s) n) (sub-all (level (stateOf s) n)) in
-        record {
-          within = omega arith;
-          room = omega (arith, level-ends s n, files-room s n h);
-          order = subst (λ (fs : List File). rising fs) is (levels-sorted n (level (stateOf s) n) (λ f m. goodFile-order full f (g .0 .good f m)) (g .0 .ordered));
-          small = subst (λ (fs : List File). total fs ≤ 2 ^ 48) is (g .1);
-        }
 
     -- all its files that overlap a range are taken where the limit is the largest number
     level-all : (r : Range) → upTo 18446744073709551615 0 (overlapping n (level (stateOf s) n) r) ≡ overlapping n (level (stateOf s) n) r
@@ -419,25 +207,21 @@ module _ (s : Store) (n : ℕ) where
     pub all-taken : (fs : List File) (r w : Range) → fs ≡ upTo 18446744073709551615 0 (overlapping n (level (stateOf s) n) r) → r ≡ w → fs ≡ overlapping n (level (stateOf s) n) w
     all-taken fs r w e q = e ∙ ap (λ (x : Range). upTo 18446744073709551615 0 (overlapping n (level (stateOf s) n) x)) q ∙ level-all w
 
-    -- what a search over the level finds
-    pub level-known : (r : Found) → Gathered (s .files) (startAt s n) (endAt s n) r → Known s n r
-    unfolding inputsOf
-    level-known r g =
-        let few = g .few in
-        let ends = level-ends s n in
-        let room = files-room s n h in
-        record {
-          held = record { array = g .array; placed = record { room = omega arith; below = λ i m. let b = g .below i m in omega arith }; few = omega arith };
-          sums = g .sums;
-        }
+  -- what a search over the level finds
+  pub level-known : (r : Found) → Gathered (s .files) (startAt s n) (endAt s n) r → Known s n r
+  unfolding inputsOf
+  level-known r g =
+      let starts = g .starts in
+      let fits = g .fits in
+      record { held = record { few = omega arith; below = omega (arith, level-ends s n) }; sums = g .sums }
 
-  -- as many files as places
-  pub held-count : (p : Places) → Held s n p → length (inputsOf s p) ≡ p .count
-  unfolding inputsOf listedAt
-  held-count p h =
-      let room = h .placed .room in
-      let array = h .array in
-      files-length (s .files) (take (p .count) (p .at)) ∙ length-take-le (p .count) (p .at) (omega arith)
+  -- as many files as the count says
+  pub held-count : (a : Found) → wellStore s ≡ true → length (s .files) ≡ 256 → Held s n a → length (inputsOf s a) ≡ a .count
+  unfolding inputsOf run
+  held-count a h q k =
+      let below = k .below in
+      let size = length-view fileOf (a .from) (a .from + a .count) (s .files) (omega (arith, files-room s n h)) in
+      omega arith
 
 -- the files that overlap the range at level 0, by its least widening; deeper by itself
 pub overlapping-first : (n : ℕ) (fs : List File) (r w : Range) → n ≡ 0 → w ≡ widen fs r → keep (overlaps w) fs ≡ overlapping n fs r
@@ -452,7 +236,7 @@ overlapping-deeper (suc n) fs r e = refl
 
 -- ---- ranges from ends
 -- of files found
-pub known-range : (a : Found) (s : Store) (n : ℕ) → Known s n a → spanOf (rangeFound a) ≡ rangeOf (inputsOf s (a .places))
+pub known-range : (a : Found) (s : Store) (n : ℕ) → Known s n a → spanOf (rangeFound a) ≡ rangeOf (inputsOf s a)
 unfolding rangeFound rangeOf
 known-range a s n k = span-between (a .ends .low) (a .ends .high) ∙ rw (k .sums .low, k .sums .high)
 
@@ -482,22 +266,22 @@ high-held (suc n) (suc m) a b = one (before (keyOf a) (keyOf b)) a b
 
 -- the range of joined ends is the joint range
 pub joint-is : (a b : Found) (e : Ends)
-    → keyOf (e .low) ≡ lowWith (a .places .count) (keyOf (a .ends .low)) (b .places .count) (keyOf (b .ends .low))
-    → keyOf (e .high) ≡ highWith (a .places .count) (keyOf (a .ends .high)) (b .places .count) (keyOf (b .ends .high))
+    → keyOf (e .low) ≡ lowWith (a .count) (keyOf (a .ends .low)) (b .count) (keyOf (b .ends .low))
+    → keyOf (e .high) ≡ highWith (a .count) (keyOf (a .ends .high)) (b .count) (keyOf (b .ends .high))
     → spanRecord (between (keyOf (e .low)) (keyOf (e .high))) ≡ jointFound a b
 unfolding jointFound
 joint-is a b e l h = rw (l, h)
 
 -- of two lists of files found
-pub known-joint : (a b : Found) (s : Store) (n m : ℕ) → Known s n a → Known s m b → spanOf (jointFound a b) ≡ rangeOf (inputsOf s (a .places) ++ inputsOf s (b .places))
+pub known-joint : (a b : Found) (s : Store) (n m : ℕ) → wellStore s ≡ true → length (s .files) ≡ 256 → Known s n a → Known s m b → spanOf (jointFound a b) ≡ rangeOf (inputsOf s a ++ inputsOf s b)
 unfolding jointFound rangeOf
-known-joint a b s n m k j =
-    let fs = inputsOf s (a .places) in
-    let gs = inputsOf s (b .places) in
-    let f = held-count s n (a .places) (k .held) in
-    let g = held-count s m (b .places) (j .held) in
-    let x = low-held (a .places .count) (b .places .count) (a .ends .low) (b .ends .low) in
-    let y = high-held (a .places .count) (b .places .count) (a .ends .high) (b .ends .high) in
+known-joint a b s n m w q k j =
+    let fs = inputsOf s a in
+    let gs = inputsOf s b in
+    let f = held-count s n a w q (k .held) in
+    let g = held-count s m b w q (j .held) in
+    let x = low-held (a .count) (b .count) (a .ends .low) (b .ends .low) in
+    let y = high-held (a .count) (b .count) (a .ends .high) (b .ends .high) in
     let low : keyOf (x .holder) ≡ lowKey (fs ++ gs) = rw (low-joined fs gs, f, g, ← k .sums .low, ← j .sums .low) (x .holds) in
     let high : keyOf (y .holder) ≡ highKey (fs ++ gs) = rw (high-joined fs gs, f, g, ← k .sums .high, ← j .sums .high) (y .holds) in
     rw (← x .holds, ← y .holds) (span-between (x .holder) (y .holder) ∙ rw (low, high))

@@ -1,5 +1,4 @@
-pub mod Places
-pub mod PlacesLaws
 pub mod CallsLaws
 pub mod Found
 pub mod FoundLaws
+pub mod SettledLaws

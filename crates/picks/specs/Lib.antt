@@ -1,4 +1,6 @@
 pub mod Picks
+pub mod Made
+pub mod MadeLaws
 pub mod OneLaws
 pub mod ChoiceLaws
 pub mod StartLaws

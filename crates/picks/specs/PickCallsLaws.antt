@@ -6,34 +6,64 @@ use mathlib.Core.List.{List, [], _∷_, Option·toList}
 use mathlib.Core.Option.{Option, none, some}
 use native.Mathlib.Omega.{arith}
 use lib.Dec.{eqb}
+use lib.Ieee.{Float}
 use borrow.Author.Tests.{eq-eqb, ne-eqb}
 use lib.ListN.{length}
 use Rattle.lemmas.specs.Order.{clash}
 use Rattle.lemmas.specs.Lists.{isEmpty}
+use Rattle.lemmas.specs.ListLaws.{sub-all}
 use Rattle.model.specs.Answer.{gives, refused, Refusal, _⇒_, firstOf}
 use Rattle.model.specs.File.{File, State, full, level, pointer}
 use Rattle.model.specs.Key.{Key, goodKey}
-use Rattle.model.specs.Pick.{startFile, sizeInputs, manualInputs, bySize, manual, Pick, complete, badMaximum, sizePick, manualPick}
-use Rattle.model.specs.PickLaws.{due-nonempty}
-use Rattle.model.specs.Range.{between}
+use Rattle.model.specs.Pick.{upTo, startFile, sizeInputs, manualInputs, bySize, manual, Pick, complete, badMaximum, sizePick, manualPick}
+use Rattle.model.specs.PickLaws.{due-nonempty, size-nonempty}
+use Rattle.model.specs.Range.{Range, between, overlapping, rangeOf}
 use Rattle.model.specs.Score.{score, levelToCompact, due, reported}
 use Rattle.store.specs.declared.Store.{Store}
 use Rattle.store.specs.Store.{stateOf, wellStore, onStore}
 use Rattle.store.specs.StoreLaws as store
 use Rattle.gathering.specs.CallsLaws.{asked-ill, asked-beyond, asked-key, asked-on}
-use Rattle.completing.specs.CompleteLaws.{none-left, some-left}
-use Rattle.picks.specs.Picks.{startIn, takenFrom}
+use Rattle.gathering.specs.declared.Found.{Found}
+use Rattle.gathering.specs.Found.{inputsOf, Known, rangeFound}
+use Rattle.gathering.specs.FoundLaws.{all-taken, known-range, level-part}
+use Rattle.completing.specs.declared.Choice.{Choice}
+use Rattle.completing.specs.Choice.{begun, filledWith, firsts, Stands}
+use Rattle.completing.specs.StandsLaws.{stands-ready, stands-one}
+use Rattle.picked.specs.declared.Cause.the-variants.{Size, Manual}
+use Rattle.picked.specs.Picked.{causeOf}
+use Rattle.ranges.specs.Ranges.{spanOf, spanRecord}
+use Rattle.picks.specs.Made.{picksFrom}
+use Rattle.picks.specs.ChoiceLaws.{manual-limited}
+use Rattle.picks.specs.Picks.{limitOf, searchOf, startIn}
 use Rattle.picks.specs.StartLaws.{start-nothing}
 
 -- ---- a size pick
--- from the file to start with
-pub size-from : (l : ℕ) (o : Option Key) (fs : List File) (f : File) → startFile o fs ≡ some f → takenFrom l fs (f ∷ []) ≡ sizeInputs l o fs
-unfolding sizeInputs takenFrom Option·toList
-size-from l o fs f e = go l
-  where
-    go : (l : ℕ) → takenFrom l fs (f ∷ []) ≡ sizeInputs l o fs
-    go zero = rw e
-    go (suc l) = rw e
+-- what it asks from the file to start with
+unfoldable pub oneAsked : ℕ → ℕ → Found → Choice
+oneAsked n m a = filledWith (begun n m (rangeFound a) 18446744073709551615) 0 a
+
+module _ (s : Store) (n m : ℕ) (a : Found) (known : Known s n a) (c : Choice) (k : ℕ) (e : c ≡ oneAsked n m a) (f : k ≡ searchOf n) where
+  -- it may begin with its search
+  pub size-stands : Stands s (firsts s k c) k c
+  unfolding oneAsked firsts searchOf filledWith begun
+  size-stands = rw (e, f) (go n known)
+    where
+      go : (n : ℕ) → Known s n a → Stands s (firsts s (searchOf n) (oneAsked n m a)) (searchOf n) (oneAsked n m a)
+      go zero h = stands-ready s 0 m 18446744073709551615 (rangeFound a) a (h .held)
+      go (suc n) h = stands-one s (suc n) m 18446744073709551615 (rangeFound a) a h
+
+  -- its first inputs are the model's
+  pub size-firsts : (file : File) → wellStore s ≡ true → n < 7 → inputsOf s a ≡ file ∷ [] → startFile (pointer (stateOf s) n) (level (stateOf s) n) ≡ some file
+      → firsts s k c ≡ sizeInputs n (pointer (stateOf s) n) (level (stateOf s) n)
+  unfolding oneAsked firsts searchOf filledWith begun sizeInputs Option·toList
+  size-firsts file h below one start = rw (e, f) (go n known below start)
+    where
+      go : (n : ℕ) → Known s n a → n < 7 → startFile (pointer (stateOf s) n) (level (stateOf s) n) ≡ some file
+          → firsts s (searchOf n) (oneAsked n m a) ≡ sizeInputs n (pointer (stateOf s) n) (level (stateOf s) n)
+      go zero g b z = all-taken s 0 h b (upTo 18446744073709551615 0 (overlapping 0 (level (stateOf s) 0) (spanOf (rangeFound a)))) (spanOf (rangeFound a)) (rangeOf (file ∷ [])) refl
+          (known-range a s 0 g ∙ ap rangeOf one)
+          ∙ rw z
+      go (suc n) g b z = one ∙ rw z
 
 -- where the search found nothing no work is due
 pub nothing-due : (s : Store) (n : ℕ) → wellStore s ≡ true → length (s .files) ≡ 256 → n < length (s .counts) → n < length (s .pointers)
@@ -45,8 +75,8 @@ nothing-due s n h q c p e = go (due (score (stateOf s) n)) refl e
     go false t z = refl
 
 -- where it found a place work is due, and it is that place
-pub found-due : (d : Bool) (o : Option ℕ) (i : ℕ) → some i ≡ cond d o none → (d ≡ true) × (o ≡ some i)
-found-due true o i e = (refl, sym e)
+pub found-due : (d : Bool) (o : Option ℕ) (i : ℕ) → cond d o none ≡ some i → (d ≡ true) × (o ≡ some i)
+found-due true o i e = (refl, e)
 found-due false o i e = let w : true ≡ false = cc in clash refl w
 
 module _ (s : Store) (m : ℕ) where
@@ -69,28 +99,31 @@ module _ (s : Store) (m : ℕ) where
           let d′ : due (score (stateOf s) (levelToCompact full (stateOf s))) ≡ false = subst (λ (k : ℕ). due (score (stateOf s) k) ≡ false) e d in
           store.onStore-well s (λ t. sizePick full t m) h ∙ rw (store.well-says s .0 h .formed, b, d′)
 
-      -- none of these
-      pub size-done : due (score (stateOf s) n) ≡ true
-          → onStore s (λ t. sizePick full t m) ≡ gives (complete full (stateOf s) m (bySize (reported (score (stateOf s) n))) n (sizeInputs n (pointer (stateOf s) n) (level (stateOf s) n)))
-      unfolding sizePick firstOf _⇒_
-      size-done d =
+      -- none of these: the pick from the first inputs on
+      pub size-picks : due (score (stateOf s) n) ≡ true → n < 7 → (x : Float) (a : Found) (c : Choice) (k : ℕ) → x ≡ reported (score (stateOf s) n) → c ≡ oneAsked n m a
+          → firsts s k c ≡ sizeInputs n (pointer (stateOf s) n) (level (stateOf s) n) → picksFrom s (Size x) c k ≡ onStore s (λ t. sizePick full t m)
+      unfolding sizePick picksFrom causeOf firstOf _⇒_ oneAsked filledWith begun
+      size-picks d below x a c k score-is asked-is firsts-are =
           let t = stateOf s in
+          let fs = level t n in
           let d′ : due (score t (levelToCompact full t)) ≡ true = subst (λ (k : ℕ). due (score t k) ≡ true) e d in
-          store.onStore-well s (λ t. sizePick full t m) h ∙ rw (store.well-says s .0 h .formed, b, d′)
-          (ap (λ (k : ℕ). gives (complete full t m (bySize (reported (score t k))) k (sizeInputs k (pointer t k) (level t k)))) (sym e))
+          let some = size-nonempty full n (pointer t n) fs (level-part s n h below fs (sub-all fs) .0 .good) (due-nonempty t n d) in
+          rw (firsts-are, asked-is, score-is, some)
+          (sym (store.onStore-well s (λ t. sizePick full t m) h ∙ rw (store.well-says s .0 h .formed, b, d′)
+          (ap (λ (k : ℕ). gives (complete full t m (bySize (reported (score t k))) k (sizeInputs k (pointer t k) (level t k)))) (sym e))))
 
 -- ---- a manual pick
 module _ (s : Store) (m n : ℕ) (a b : Key) where
   -- its first inputs
-  abbrev pub firstIn : State → List File
+  abbrev firstIn : State → List File
   firstIn t = manualInputs m n (level t n) (between a b)
 
   -- 9, 11, 10
-  abbrev pub laterRefusals : State → List Refusal
+  abbrev laterRefusals : State → List Refusal
   laterRefusals t = (badMaximum m ⇒ 9) ∷ (eqb (suc n) (full .levels) ⇒ 11) ∷ (isEmpty (firstIn t) ⇒ 10) ∷ []
 
   -- the pick from them
-  abbrev pub completed : State → Pick
+  abbrev completed : State → Pick
   completed t = complete full t m manual n (firstIn t)
 
   -- both keys are good
@@ -125,12 +158,11 @@ module _ (s : Store) (m n : ℕ) (a b : Key) where
         unfolding manualPick firstOf _⇒_ full
         range-last x l = asked-on s n two laterRefusals completed h k g ∙ rw (x, eq-eqb (suc n) 7 (omega arith))
 
-        -- 10
-        pub range-nothing : badMaximum m ≡ false → n + 1 < 7 → length (firstIn (stateOf s)) ≡ 0 → onStore s (λ t. manualPick full t m n a b) ≡ refused 10
-        unfolding manualPick firstOf _⇒_ full
-        range-nothing x l e = asked-on s n two laterRefusals completed h k g ∙ rw (x, ne-eqb (suc n) 7 (λ z. omega arith), none-left (firstIn (stateOf s)) e)
-
-        -- none of these
-        pub range-done : badMaximum m ≡ false → n + 1 < 7 → (length (firstIn (stateOf s)) ≡ 0 → ⊥) → onStore s (λ t. manualPick full t m n a b) ≡ gives (completed (stateOf s))
-        unfolding manualPick firstOf _⇒_ full
-        range-done x l e = asked-on s n two laterRefusals completed h k g ∙ rw (x, ne-eqb (suc n) 7 (λ z. omega arith), some-left (firstIn (stateOf s)) e)
+        -- none of these: the pick from the first inputs on, which is refused with 10 where there are none
+        pub range-picks : badMaximum m ≡ false → n + 1 < 7 → (c : Choice) → c ≡ begun n m (spanRecord (between a b)) (limitOf m n) → spanOf (spanRecord (between a b)) ≡ between a b
+            → picksFrom s Manual c 0 ≡ onStore s (λ t. manualPick full t m n a b)
+        unfolding manualPick picksFrom firsts begun causeOf firstOf _⇒_ full
+        range-picks x l c e span =
+            let first : firsts s 0 (begun n m (spanRecord (between a b)) (limitOf m n)) ≡ firstIn (stateOf s) =
+            ap (λ (r : Range). upTo (limitOf m n) 0 (overlapping n (level (stateOf s) n) r)) span ∙ manual-limited s m n (between a b) h k in
+            rw (e, first) (sym (asked-on s n two laterRefusals completed h k g ∙ rw (x, ne-eqb (suc n) 7 (λ z. omega arith))))

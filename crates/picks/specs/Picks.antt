@@ -1,34 +1,43 @@
--- The first inputs of a pick as places in a store's array, and the file to start with. Assumes nothing.
+-- The file that a size pick starts with, as a place in a store's array; the limit of a manual pick. Assumes nothing.
 use Prim.Native.Nat.{ℕ, zero, suc, _-_, min}
+use mathlib.Core.Bool.{Bool, cond}
 use mathlib.Core.List.{List, [], _∷_}
 use mathlib.Core.Option.{Option, none, some, orElse}
 use lib.ListN.{length, getD}
 use Rattle.lemmas.specs.Lists.{find, upFrom}
 use Rattle.model.specs.Key.{Key, before}
-use Rattle.model.specs.File.{File}
-use Rattle.model.specs.Range.{overlapping, rangeOf}
+use Rattle.records.specs.Record.{blank}
+use Rattle.records.specs.RecordLaws as record-laws
 use Rattle.records.specs.declared.FileRecord.{FileRecord}
 use Rattle.store.specs.declared.Store.{Store}
 use Rattle.store.specs.Store.{pointerOf}
 use Rattle.store.specs.StoreLaws.{past}
 use Rattle.gathering.specs.declared.Found.{Found}
-use Rattle.gathering.specs.Places.{placesOf, fileAt, startAt, endAt}
-use Rattle.picks.specs.declared.Start.{Start}
+use Rattle.gathering.specs.Found.{fileAt, startAt, endAt}
+use Rattle.picks.specs.declared.Started.{Started}
 use Rattle.picks.specs.declared.Start.the-variants.{At, Nothing}
 
 -- one file found, by its place and its record
 unfoldable pub oneFound : ℕ → FileRecord → Found
-oneFound i f = record { places = placesOf (i ∷ []); ends = record { low = f .smallest; high = f .largest }; bytes = f .size }
+oneFound i f = record { from = i; count = 1; ends = record { low = f .smallest; high = f .largest }; bytes = f .size }
 
 -- the bytes above which a manual pick takes no further file: none at level 0
 unfoldable pub limitOf : ℕ → ℕ → ℕ
 limitOf m zero = 18446744073709551615
 limitOf m (suc l) = m
 
--- the place that a search found
-unfoldable pub placeOf : Start → Option ℕ
-placeOf (At i) = some i
-placeOf Nothing = none
+-- nothing to start with
+unfoldable pub noStart : Started
+noStart = record { start = Nothing; file = blank }
+
+-- a file to start with
+unfoldable pub startedAt : ℕ → FileRecord → Started
+startedAt i f = record { start = At i; file = f }
+
+-- the first search of a size pick: at level 0 by the range of its file, deeper that of second inputs
+unfoldable pub searchOf : ℕ → ℕ
+searchOf zero = 0
+searchOf (suc l) = 1
 
 -- the first of a list of places, if any
 unfoldable pub firstPlace : List ℕ → Option ℕ
@@ -46,7 +55,11 @@ startPlace (some k) from to files =
 unfoldable pub startIn : Store → ℕ → Option ℕ
 startIn s n = startPlace (pointerOf (getD (s .pointers) n past)) (startAt s n) (endAt s n) (s .files)
 
--- the first inputs of a size pick from the file to start with, as a list of one: that file; at level 0 the widening of its range replaces it
-unfoldable pub takenFrom : ℕ → List File → List File → List File
-takenFrom zero fs one = overlapping 0 fs (rangeOf one)
-takenFrom (suc l) fs one = one
+-- the file at a place, if any
+unfoldable pub fromPlace : Store → Option ℕ → Started
+fromPlace s none = noStart
+fromPlace s (some i) = startedAt i (getD (s .files) i record-laws.past)
+
+-- the file that a size pick of a level starts with, where work is due
+unfoldable pub startedIn : Store → ℕ → Bool → Started
+startedIn s n due = fromPlace s (cond due (startIn s n) none)

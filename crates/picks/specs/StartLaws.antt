@@ -28,9 +28,10 @@ use Rattle.store.specs.declared.Pointer.{Pointer}
 use Rattle.store.specs.declared.Store.{Store}
 use Rattle.store.specs.Store.{pointerOf, stateOf, wellStore}
 use Rattle.store.specs.StoreLaws.{past}
-use Rattle.gathering.specs.Places.{fileAt, startAt, endAt}
+use Rattle.gathering.specs.Found.{fileAt, startAt, endAt}
 use Rattle.gathering.specs.CallsLaws.{level-run, level-ends, files-room}
-use Rattle.picks.specs.Picks.{firstPlace, startPlace, startIn}
+use Rattle.picks.specs.declared.Start.the-variants.{At, Nothing}
+use Rattle.picks.specs.Picks.{noStart, startedAt, firstPlace, startPlace, startIn, fromPlace}
 
 -- ---- the search, turn by turn
 module _ (i to : ℕ) (files : List FileRecord) where
@@ -185,3 +186,16 @@ module _ (s : Store) (n : ℕ) (h : wellStore s ≡ true) (q : length (s .files)
   -- nothing found
   pub start-nothing : startIn s n ≡ none → isEmpty (level (stateOf s) n) ≡ true
   start-nothing e = no-start (pointer (stateOf s) n) (level (stateOf s) n) (sym start-file ∙ ap (Option·map (fileAt (s .files))) e)
+
+-- ---- what the search answers
+-- a place: that one, and the file there
+pub from-at : (s : Store) (o : Option ℕ) (i : ℕ) → fromPlace s o .start ≡ At i → (o ≡ some i) × (fromPlace s o .file ≡ getD (s .files) i record-laws.past)
+unfolding fromPlace noStart startedAt
+from-at s none i e = let w : true ≡ false = cc in clash refl w
+from-at s (some j) i e = let q : j ≡ i = cc in (ap some q, ap (λ (k : ℕ). getD (s .files) k record-laws.past) q)
+
+-- nothing: no place
+pub from-none : (s : Store) (o : Option ℕ) → fromPlace s o .start ≡ Nothing → o ≡ none
+unfolding fromPlace noStart startedAt
+from-none s none e = refl
+from-none s (some i) e = let w : true ≡ false = cc in clash refl w

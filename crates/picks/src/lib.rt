@@ -1,22 +1,19 @@
-// What to compact: size picks and manual picks. The first inputs are places in the store's array.
+// What to compact: size picks and manual picks, each from its first inputs or from what it asks them by.
 ghost use mathlib.Core.Path.{_≡_};
-ghost use mathlib.Core.Bool.{true, cond};
-ghost use mathlib.Core.Option.{none};
-ghost use Prim.Native.Nat.{_<_};
-ghost use Rattle.model.specs.Answer.{refused};
+ghost use mathlib.Core.Bool.{true};
+ghost use Prim.Native.Nat.{_<_, _≤_};
 ghost use Rattle.model.specs.File.{full};
-ghost use Rattle.model.specs.File as version;
 ghost use Rattle.model.specs.Pick as model;
 ghost use Rattle.keys.specs.Key.{keyOf};
-ghost use Rattle.store.specs.Store.{stateOf, wellStore, onStore};
+ghost use Rattle.store.specs.Store.{wellStore, onStore};
 ghost use Rattle.picked.specs.Picked.{pickOf};
-ghost use Rattle.gathering.specs.Places.{inputsOf};
-ghost use Rattle.gathering.specs.Found.{Known};
-ghost use Rattle.picks.specs.Picks.{oneFound, limitOf, placeOf, startIn, takenFrom};
+ghost use Rattle.completing.specs.Choice.{firsts, Stands};
+ghost use Rattle.picks.specs.Made.{Makes, noneMade, leftBy, picksFrom};
+ghost use Rattle.picks.specs.Picks.{oneFound, limitOf, searchOf, noStart, startedAt, startedIn};
 use answers::Outcome;
 use answers::Refusal;
+use completing::Choice;
 use gathering::Found;
-use gathering::Places;
 use keys::Key;
 use picked::Cause;
 use picked::Pick;
@@ -24,6 +21,7 @@ use picked::Picked;
 use records::Ends;
 use records::FileRecord;
 use records::Level;
+use store::Pointer;
 use store::Store;
 
 // What a search for the file to start with found: its place, or nothing.
@@ -32,9 +30,27 @@ pub enum Start {
     Nothing,
 }
 
-// No pick, the store as it was, with the number of the refusal.
-fn refuse(s: Store, n: u8) -> Pick
-    ensures { λ r. ⌜ r ≡ pickOf s (refused n) ⌝ }
+// Such an answer with the record of the file, the blank one where there is none.
+pub struct Started {
+    pub start: Start,
+    pub file: FileRecord,
+}
+
+// The answer of a pick without the store: the picked answer, with the number of a refusal or none.
+pub struct Taken {
+    pub picked: Picked,
+    pub outcome: Outcome,
+}
+
+// What a pick makes of a store: its answer, and the pointers that the store is left with.
+pub struct Made {
+    pub taken: Taken,
+    pub pointers: [Pointer; 7],
+}
+
+// No pick and the pointers as they were, with the number of the refusal.
+fn refuse(n: u8, pointers: [Pointer; 7]) -> Made
+    ensures { λ r. ⌜ r ≡ noneMade n pointers ⌝ }
 {
     let outcome = Outcome::Refused(n);
     let cause = Cause::Manual;
@@ -48,10 +64,13 @@ fn refuse(s: Store, n: u8) -> Pick
         second: 0,
         grand: 0,
     };
-    Pick {
-        outcome: outcome,
+    let taken = Taken {
         picked: picked,
-        store: s,
+        outcome: outcome,
+    };
+    Made {
+        taken: taken,
+        pointers: pointers,
     }
 }
 
@@ -65,24 +84,48 @@ fn is_bad_maximum(maximum: u64) -> bool
     Picked::LARGEST_MAXIMUM < maximum
 }
 
-// The place of the file that a size pick starts with: of the level's files the first whose largest key is after its pointer, or the first if there is no
+// Nothing to start with.
+fn nothing_started() -> Started
+    ensures { λ r. ⌜ r ≡ noStart ⌝ }
+{
+    let start = Start::Nothing;
+    let file = records::blank_record();
+    Started {
+        start: start,
+        file: file,
+    }
+}
+
+// A file to start with, by its place and its record.
+fn started_at(i: usize, f: FileRecord) -> Started
+    ensures { λ r. ⌜ r ≡ startedAt i f ⌝ }
+{
+    let start = Start::At(i);
+    Started {
+        start: start,
+        file: f,
+    }
+}
+
+// The file that a size pick starts with: of the level's files the first whose largest key is after its pointer, or the first if there is no
 // pointer or none is after it; nothing where no work is due. For callers of this repository, who have tested the store and the level.
-fn size_start(s: Store, level: usize, due: bool) -> Start
+fn size_start(s: Store, level: usize, due: bool) -> Started
     requires { ⌜ (wellStore s ≡ true) × (level < 7) ⌝ }
-    ensures { λ r. ⌜ placeOf r ≡ cond due (startIn s level) none ⌝ }
+    ensures { λ r. ⌜ r ≡ startedIn s level due ⌝ }
 {
     if !due {
-        return Start::Nothing;
+        return nothing_started();
     }
     let counts = s.counts;
     let from = levels::start_of(counts, level);
     let to = from + counts[level];
     if to <= from {
-        return Start::Nothing;
+        return nothing_started();
     }
     let p = s.pointers[level];
     if !p.set {
-        return Start::At(from);
+        let f = s.files[from];
+        return started_at(from, f);
     }
     let key = p.key;
     let mut i = from;
@@ -90,20 +133,18 @@ fn size_start(s: Store, level: usize, due: bool) -> Start
         let f = s.files[i];
         let high = f.largest;
         if keys::is_before(key, high) {
-            return Start::At(i);
+            return started_at(i, f);
         }
         i += 1;
     }
-    Start::At(from)
+    let f = s.files[from];
+    started_at(from, f)
 }
 
 // One file found, by its place and its record.
 fn one_file(i: usize, f: FileRecord) -> Found
     ensures { λ r. ⌜ r ≡ oneFound i f ⌝ }
 {
-    let mut at = [0usize; 256];
-    at[0] = i;
-    let places = Places { at: at, count: 1 };
     let low = f.smallest;
     let high = f.largest;
     let ends = Ends {
@@ -111,23 +152,21 @@ fn one_file(i: usize, f: FileRecord) -> Found
         high: high,
     };
     Found {
-        places: places,
+        from: i,
+        count: 1,
         ends: ends,
         bytes: f.size,
     }
 }
 
-// The first inputs of a size pick from the file to start with: that file; at level 0 the widening of its range replaces it. For callers of this
-// repository, who have tested the store and the level.
-fn size_inputs(s: Store, level: usize, one: Found) -> Found
-    requires { ⌜ (wellStore s ≡ true) × (level < 7) × Known s level one ⌝ }
-    ensures { λ r. ⌜ Known s level r × (inputsOf s (r .places) ≡ takenFrom level (version.level (stateOf s) level) (inputsOf s (one .places))) ⌝ }
+// The first search of a size pick: from its one file it goes on to second inputs; at level 0 the widening of its range replaces that file.
+fn search_of(level: usize) -> usize
+    ensures { λ r. ⌜ r ≡ searchOf level ⌝ }
 {
     if level == 0 {
-        let span = gathering::range_of(one);
-        return gathering::found_in(s, 0, span, Found::ALL);
+        return 0;
     }
-    one
+    1
 }
 
 // The bytes above which a manual pick takes no further file: none at level 0.
@@ -140,72 +179,132 @@ fn limit_of(level: usize, maximum: u64) -> u64
     maximum
 }
 
-// A size pick, of a store that is known to be well-formed. For callers of this repository, who have tested it.
-pub fn pick_known(s: Store, maximum: u64) -> Pick
-    requires { ⌜ wellStore s ≡ true ⌝ }
-    ensures { λ r. ⌜ r ≡ pickOf s (onStore s (λ t. model.sizePick full t maximum)) ⌝ }
+// What a pick makes of a store from the search that it begins with; 10 where there are no first inputs. The level's pointer becomes the first inputs' largest key.
+// For callers of this repository, who have tested the store, M and the level.
+fn made_from(s: Store, cause: Cause, asked: Choice, search: usize) -> Made
+    requires { ⌜ (wellStore s ≡ true) × (asked .level < 6) × (asked .maximum ≤ 4294967296) × (search ≤ 5) × Stands s (firsts s search asked) search asked ⌝ }
+    ensures { λ r. ⌜ Makes s (picksFrom s cause asked search) r ⌝ }
 {
+    let old = s.pointers;
+    let chosen = completing::choose(s, asked, search, Choice::SEARCHES);
+    let c = chosen.choice;
+    if c.first.count == 0 {
+        return refuse(Refusal::NOTHING, old);
+    }
+    let found = c.first;
+    let ends = found.ends;
+    let high = ends.high;
+    let key = keys::kept(high);
+    let level = c.level;
+    let mut pointers = old;
+    pointers[level] = Pointer {
+        set: true,
+        key: key,
+    };
+    let files = chosen.files;
+    let picked = Picked {
+        level: level,
+        cause: cause,
+        maximum: c.maximum,
+        files: files,
+        first: c.first.count,
+        second: c.second.count,
+        grand: c.grand.count,
+    };
+    let outcome = Outcome::Done;
+    let taken = Taken {
+        picked: picked,
+        outcome: outcome,
+    };
+    Made {
+        taken: taken,
+        pointers: pointers,
+    }
+}
+
+// What a size pick makes of a store.
+pub fn size_made(s: Store, maximum: u64) -> Made
+    ensures { λ r. ⌜ Makes s (onStore s (λ t. model.sizePick full t maximum)) r ⌝ }
+{
+    let old = s.pointers;
+    if !store::is_well_formed(s) {
+        return refuse(Refusal::FORM, old);
+    }
     if is_bad_maximum(maximum) {
-        return refuse(s, Refusal::COUNTER);
+        return refuse(Refusal::COUNTER, old);
     }
     let scored = scores::finalize(s);
     let level = scored.level;
-    let found = size_start(s, level, scored.due);
+    let started = size_start(s, level, scored.due);
+    let found = started.start;
     let Start::At(i) = found else {
-        return refuse(s, Refusal::NOTHING);
+        return refuse(Refusal::NOTHING, old);
     };
-    let f = s.files[i];
+    let f = started.file;
     let one = one_file(i, f);
-    let first = size_inputs(s, level, one);
+    let span = gathering::range_of(one);
+    let mut asked = completing::asking(level, maximum, span, Found::ALL);
+    asked.first = one;
     let cause = Cause::Size(scored.score);
-    completing::complete(s, maximum, cause, level, first)
+    made_from(s, cause, asked, search_of(level))
+}
+
+// What a manual pick makes of a store.
+pub fn manual_made(s: Store, maximum: u64, level: usize, start: Key, stop: Key) -> Made
+    ensures { λ r. ⌜ Makes s (onStore s (λ t. model.manualPick full t maximum level (keyOf start) (keyOf stop))) r ⌝ }
+{
+    let old = s.pointers;
+    if !store::is_well_formed(s) {
+        return refuse(Refusal::FORM, old);
+    }
+    if Level::COUNT <= level {
+        return refuse(Refusal::LEVEL, old);
+    }
+    if !keys::is_good(start) {
+        return refuse(Refusal::KEY, old);
+    }
+    if !keys::is_good(stop) {
+        return refuse(Refusal::KEY, old);
+    }
+    if is_bad_maximum(maximum) {
+        return refuse(Refusal::COUNTER, old);
+    }
+    if Level::COUNT <= level + 1 {
+        return refuse(Refusal::LAST_LEVEL, old);
+    }
+    let span = ranges::between(start, stop);
+    let asked = completing::asking(level, maximum, span, limit_of(level, maximum));
+    let cause = Cause::Manual;
+    made_from(s, cause, asked, 0)
+}
+
+// A pick with the store that it leaves.
+fn left_by(s: Store, m: Made) -> Pick
+    ensures { λ r. ⌜ r ≡ leftBy s m ⌝ }
+{
+    let taken = m.taken;
+    let outcome = taken.outcome;
+    let picked = taken.picked;
+    let pointers = m.pointers;
+    let mut t = s;
+    t.pointers = pointers;
+    Pick {
+        outcome: outcome,
+        picked: picked,
+        store: t,
+    }
 }
 
 // A size pick at the level with the greatest score; refused with 10 where no work is due.
 pub fn pick_compaction(s: Store, maximum: u64) -> Pick
     ensures { λ r. ⌜ r ≡ pickOf s (onStore s (λ t. model.sizePick full t maximum)) ⌝ }
 {
-    if !store::is_well_formed(s) {
-        return refuse(s, Refusal::FORM);
-    }
-    pick_known(s, maximum)
-}
-
-// A manual pick, of a store that is known to be well-formed. For callers of this repository, who have tested it.
-pub fn compact_known(s: Store, maximum: u64, level: usize, start: Key, stop: Key) -> Pick
-    requires { ⌜ wellStore s ≡ true ⌝ }
-    ensures { λ r. ⌜ r ≡ pickOf s (onStore s (λ t. model.manualPick full t maximum level (keyOf start) (keyOf stop))) ⌝ }
-{
-    if Level::COUNT <= level {
-        return refuse(s, Refusal::LEVEL);
-    }
-    if !keys::is_good(start) {
-        return refuse(s, Refusal::KEY);
-    }
-    if !keys::is_good(stop) {
-        return refuse(s, Refusal::KEY);
-    }
-    if is_bad_maximum(maximum) {
-        return refuse(s, Refusal::COUNTER);
-    }
-    if Level::COUNT <= level + 1 {
-        return refuse(s, Refusal::LAST_LEVEL);
-    }
-    let span = ranges::between(start, stop);
-    let first = gathering::found_in(s, level, span, limit_of(level, maximum));
-    if first.places.count == 0 {
-        return refuse(s, Refusal::NOTHING);
-    }
-    let cause = Cause::Manual;
-    completing::complete(s, maximum, cause, level, first)
+    left_by(s, size_made(s, maximum))
 }
 
 // A manual pick of the files of a level that overlap the range of two internal keys.
 pub fn compact_range(s: Store, maximum: u64, level: usize, start: Key, stop: Key) -> Pick
     ensures { λ r. ⌜ r ≡ pickOf s (onStore s (λ t. model.manualPick full t maximum level (keyOf start) (keyOf stop))) ⌝ }
 {
-    if !store::is_well_formed(s) {
-        return refuse(s, Refusal::FORM);
-    }
-    compact_known(s, maximum, level, start, stop)
+    left_by(s, manual_made(s, maximum, level, start, stop))
 }

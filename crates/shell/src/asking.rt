@@ -42,7 +42,7 @@ fn overlap(s: Store, line: &[u8], w: Parts) {
     if !k.fine {
         return replies::refuse(texts::KEY);
     }
-    tell_list(gathering::overlapping_inputs(s, l.value as usize, k.low, k.high))
+    tell_list(overlaps::overlapping_inputs(s, l.value as usize, k.low, k.high))
 }
 
 // 1 for yes, 0 for no, or the refusal.
@@ -64,7 +64,7 @@ fn inlevel(s: Store, line: &[u8], w: Parts) -> Reply {
     if !k.fine {
         return Reply::Bad(texts::KEY);
     }
-    told(gathering::overlap_in_level(s, l.value as usize, k.low, k.high))
+    told(overlaps::overlap_in_level(s, l.value as usize, k.low, k.high))
 }
 
 // The level of a memory table.

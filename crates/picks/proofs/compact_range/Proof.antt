@@ -1,34 +1,26 @@
 -- `picks::compact_range` meets its contract. Assumes nothing.
-use mathlib.Core.Path.{sym, ap, _∙_}
-use borrow.Author.Tests.{not-true, not-false}
-use Rattle.keys.specs.Key.{keyOf}
-use Rattle.picked.specs.Picked.{pickOf}
-use Rattle.picks.specs.PickCallsLaws.{range-ill}
+use mathlib.Core.Path.{_∙_}
 use borrow.Author.Needs.{needs}
+use Rattle.model.specs.File.{full}
+use Rattle.model.specs.Pick as model
+use Rattle.keys.specs.Key.{keyOf}
+use Rattle.store.specs.Store.{onStore}
+use Rattle.picks.specs.MadeLaws.{makes-left}
 use Rattle.picks.proofs.compact_range.Statement.{statement}
 use Rattle.picks.proofs.compact_range.Tie as tie
 
-is-well-formed-requires : tie.Need-is-well-formed-requires
-is-well-formed-requires c κs = search needs
+manual-made-requires : tie.Need-manual-made-requires
+manual-made-requires c κs = search needs
 
-refuse-requires : tie.Need-refuse-requires
-refuse-requires c κs = search needs
+left-by-requires : tie.Need-left-by-requires
+left-by-requires c κs = search needs
 
 returns : tie.Need-returns
 returns c =
-    let t = c .before in
-    let w = t .before in
-    let a = w .before .args in
-    c .refuse .ensures
-    ∙ ap (pickOf (a .s)) (sym (range-ill (a .s) (a .maximum) (a .level) (keyOf (a .start)) (keyOf (a .stop)) (sym (w .is-well-formed .ensures) ∙ not-true (w .is-well-formed .result) (t .if1 .taken))))
-
-compact-known-requires : tie.Need-compact-known-requires
-compact-known-requires c κs = sym (c .before .is-well-formed .ensures) ∙ not-false (c .before .is-well-formed .result) (c .if1 .left)
-
-returns-2 : tie.Need-returns-2
-returns-2 c = search needs
+    let m = c .before in
+    let a = m .before .args in
+    c .left-by .ensures
+    ∙ makes-left (a .s) (onStore (a .s) (λ t. model.manualPick full t (a .maximum) (a .level) (keyOf (a .start)) (keyOf (a .stop)))) (m .manual-made .result) (m .manual-made .ensures)
 
 pub compact-range-spec : {M : Type 1} → statement M
-compact-range-spec =
-    tie.close
-    (tie.spec is-well-formed-requires refuse-requires returns compact-known-requires returns-2)
+compact-range-spec = tie.close (tie.spec manual-made-requires left-by-requires returns)

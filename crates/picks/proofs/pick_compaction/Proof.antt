@@ -1,32 +1,24 @@
 -- `picks::pick_compaction` meets its contract. Assumes nothing.
-use mathlib.Core.Path.{sym, ap, _∙_}
-use borrow.Author.Tests.{not-true, not-false}
-use Rattle.picked.specs.Picked.{pickOf}
-use Rattle.picks.specs.PickCallsLaws.{size-ill}
+use mathlib.Core.Path.{_∙_}
 use borrow.Author.Needs.{needs}
+use Rattle.model.specs.File.{full}
+use Rattle.model.specs.Pick as model
+use Rattle.store.specs.Store.{onStore}
+use Rattle.picks.specs.MadeLaws.{makes-left}
 use Rattle.picks.proofs.pick_compaction.Statement.{statement}
 use Rattle.picks.proofs.pick_compaction.Tie as tie
 
-is-well-formed-requires : tie.Need-is-well-formed-requires
-is-well-formed-requires c κs = search needs
+size-made-requires : tie.Need-size-made-requires
+size-made-requires c κs = search needs
 
-refuse-requires : tie.Need-refuse-requires
-refuse-requires c κs = search needs
+left-by-requires : tie.Need-left-by-requires
+left-by-requires c κs = search needs
 
 returns : tie.Need-returns
 returns c =
-    let t = c .before in
-    let w = t .before in
-    let a = w .before .args in
-    c .refuse .ensures ∙ ap (pickOf (a .s)) (sym (size-ill (a .s) (a .maximum) (sym (w .is-well-formed .ensures) ∙ not-true (w .is-well-formed .result) (t .if1 .taken))))
-
-pick-known-requires : tie.Need-pick-known-requires
-pick-known-requires c κs = sym (c .before .is-well-formed .ensures) ∙ not-false (c .before .is-well-formed .result) (c .if1 .left)
-
-returns-2 : tie.Need-returns-2
-returns-2 c = search needs
+    let m = c .before in
+    let a = m .before .args in
+    c .left-by .ensures ∙ makes-left (a .s) (onStore (a .s) (λ t. model.sizePick full t (a .maximum))) (m .size-made .result) (m .size-made .ensures)
 
 pub pick-compaction-spec : {M : Type 1} → statement M
-pick-compaction-spec =
-    tie.close
-    (tie.spec is-well-formed-requires refuse-requires returns pick-known-requires returns-2)
+pick-compaction-spec = tie.close (tie.spec size-made-requires left-by-requires returns)

@@ -1,0 +1,124 @@
+-- A pick on its way from one search to the next: what each search asks, what is kept of it, and what is known by then. Assumes nothing.
+use Prim.Native.Nat.{ℕ, zero, suc, _+_, _*_, _-_, _≤_}
+use mathlib.Core.Path.{_≡_}
+use mathlib.Core.Bool.{Bool, not, _&&_, cond}
+use mathlib.Core.List.{List, [], _∷_, _++_}
+use lib.Dec.{eqb, ltb}
+use lib.ListN.{getD, take}
+use Rattle.lemmas.specs.Lists.{sum}
+use Rattle.model.specs.File.{File, full, level}
+use Rattle.model.specs.Pick.{upTo, grownFirst, grandOf}
+use Rattle.model.specs.Range.{overlapping, rangeOf}
+use Rattle.records.specs.declared.FileRecord.{FileRecord}
+use Rattle.levels.specs.Levels.{laidOut}
+use Rattle.store.specs.declared.Store.{Store}
+use Rattle.store.specs.Store.{stateOf}
+use Rattle.ranges.specs.declared.Span.{Span}
+use Rattle.ranges.specs.Ranges.{spanOf}
+use Rattle.gathering.specs.declared.Found.{Found}
+use Rattle.gathering.specs.Found.{noneAt, inputsOf, Held, Summed, rangeFound, jointFound}
+use Rattle.completing.specs.declared.Choice.{Choice}
+use Rattle.completing.specs.declared.Question.{Question}
+use Rattle.completing.specs.declared.Runs.{Runs}
+
+-- nothing was found so far
+unfoldable pub begun : ℕ → ℕ → Span → ℕ → Choice
+begun l m r most = record { level = l; maximum = m; span = r; most = most; first = noneAt 0; second = noneAt 0; grown = noneAt 0; grand = noneAt 0 }
+
+-- ---- what the k-th search asks
+-- its level: the pick's, the next one, the pick's again, the next one, the one after
+unfoldable pub askedLevel : ℕ → ℕ → ℕ
+askedLevel l zero = l
+askedLevel l (suc zero) = l + 1
+askedLevel l (suc (suc zero)) = l
+askedLevel l (suc (suc (suc zero))) = l + 1
+askedLevel l (suc (suc (suc (suc k)))) = l + 2
+
+-- its range: the pick's, the first inputs', the joint one, the grown files', the joint one
+unfoldable pub askedSpan : Choice → ℕ → Span
+askedSpan c zero = c .span
+askedSpan c (suc zero) = rangeFound (c .first)
+askedSpan c (suc (suc zero)) = jointFound (c .first) (c .second)
+askedSpan c (suc (suc (suc zero))) = rangeFound (c .grown)
+askedSpan c (suc (suc (suc (suc k)))) = jointFound (c .first) (c .second)
+
+-- its limit of bytes: the pick's, then none
+unfoldable pub askedMost : Choice → ℕ → ℕ
+askedMost c zero = c .most
+askedMost c (suc k) = 18446744073709551615
+
+-- all of that; a level past the last has no places
+unfoldable pub questionOf : Choice → ℕ → List ℕ → Question
+questionOf c k counts =
+    let l = askedLevel (c .level) k in
+    let from = cond (ltb l 7) (sum (take l counts)) 0 in
+    record { from = from; to = from + getD counts l 0; widens = eqb l 0; span = askedSpan c k; most = askedMost c k }
+
+-- ---- what is kept of what it found
+-- the grown files replace the first inputs
+unfoldable pub growsBy : Choice → ℕ → Bool
+growsBy c again = not (eqb (c .second .count) 0) && ltb (c .first .count) (c .grown .count)
+    && ltb (c .grown .bytes + c .second .bytes) (25 * c .maximum) && eqb again (c .second .count)
+
+-- first inputs, second inputs, grown files, whether these replace the first inputs, grandparents
+unfoldable pub filledWith : Choice → ℕ → Found → Choice
+filledWith c zero f = record { level = c .level; maximum = c .maximum; span = c .span; most = c .most; first = f; second = c .second; grown = c .grown; grand = c .grand }
+filledWith c (suc zero) f = record { level = c .level; maximum = c .maximum; span = c .span; most = c .most; first = c .first; second = f; grown = c .grown; grand = c .grand }
+filledWith c (suc (suc zero)) f = record { level = c .level; maximum = c .maximum; span = c .span; most = c .most; first = c .first; second = c .second; grown = f; grand = c .grand }
+filledWith c (suc (suc (suc zero))) f =
+    record { level = c .level; maximum = c .maximum; span = c .span; most = c .most; first = cond (growsBy c (f .count)) (c .grown) (c .first); second = c .second; grown = c .grown; grand = c .grand }
+filledWith c (suc (suc (suc (suc k)))) f = record { level = c .level; maximum = c .maximum; span = c .span; most = c .most; first = c .first; second = c .second; grown = c .grown; grand = f }
+
+-- ---- what is known before the k-th search
+-- the first inputs, before growth: those that the first search will find, or those that are there
+unfoldable pub firsts : Store → ℕ → Choice → List File
+firsts s zero c = upTo (c .most) 0 (overlapping (c .level) (level (stateOf s) (c .level)) (spanOf (c .span)))
+firsts s (suc k) c = inputsOf s (c .first)
+
+module _ (s : Store) (fs : List File) (c : Choice) where
+  -- the second inputs, and the first inputs after growth
+  abbrev pub seconds : List File
+  seconds = overlapping (c .level + 1) (level (stateOf s) (c .level + 1)) (rangeOf fs)
+
+  abbrev pub chosen : List File
+  chosen = grownFirst (stateOf s) (c .maximum) (c .level) fs seconds
+
+-- a pick from first inputs fs that has come to the k-th search
+pub record Stands (s : Store) (fs : List File) (k : ℕ) (c : Choice) : Type 0 where
+  pub held-first : Held s (c .level) (c .first)
+  pub held-second : Held s (c .level + 1) (c .second)
+  pub held-grand : Held s (c .level + 2) (c .grand)
+  pub few-second : c .second .bytes ≤ 281474976710656
+  pub few-grown : c .grown .bytes ≤ 281474976710656
+  pub second-none : k ≤ 1 → c .second .count ≡ 0
+  pub grand-none : k ≤ 4 → c .grand .count ≡ 0
+  pub asked : k ≡ 0 → firsts s 0 c ≡ fs
+  pub first-sums : 1 ≤ k → Summed (inputsOf s (c .first)) (c .first .ends) (c .first .bytes)
+  pub first-are : 1 ≤ k → k ≤ 3 → inputsOf s (c .first) ≡ fs
+  pub second-sums : 2 ≤ k → Summed (inputsOf s (c .second)) (c .second .ends) (c .second .bytes)
+  pub second-are : 2 ≤ k → inputsOf s (c .second) ≡ seconds s fs c
+  pub grown-held : 3 ≤ k → Held s (c .level) (c .grown)
+  pub grown-sums : 3 ≤ k → Summed (inputsOf s (c .grown)) (c .grown .ends) (c .grown .bytes)
+  pub grown-are : 3 ≤ k → inputsOf s (c .grown) ≡ overlapping (c .level) (level (stateOf s) (c .level)) (rangeOf (fs ++ seconds s fs c))
+  pub chosen-are : 4 ≤ k → inputsOf s (c .first) ≡ chosen s fs c
+  pub grand-are : 5 ≤ k → inputsOf s (c .grand) ≡ grandOf full (stateOf s) (c .level) (rangeOf (chosen s fs c ++ seconds s fs c))
+
+-- ---- the files that were chosen
+-- where they stand
+unfoldable pub runsOf : Choice → Runs
+runsOf c = record {
+  first = c .first .from;
+  one = c .first .count;
+  second = c .second .from;
+  two = c .first .count + c .second .count;
+  third = c .grand .from;
+  three = c .first .count + c .second .count + c .grand .count;
+}
+
+-- the j-th place of three runs
+unfoldable pub placeIn : Runs → ℕ → ℕ
+placeIn r j = cond (ltb j (r .one)) (r .first + j) (cond (ltb j (r .two)) (r .second + (j - r .one)) (r .third + (j - r .two)))
+
+-- laid down one after another
+unfoldable pub laidChoice : Store → Choice → List FileRecord
+laidChoice s c = laidOut (inputsOf s (c .first) ∷ inputsOf s (c .second) ∷ inputsOf s (c .grand) ∷ [])
