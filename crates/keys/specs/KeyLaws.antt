@@ -187,6 +187,16 @@ sound-front k q s =
     let h = sound-len 40 (k .bytes) (k .len) q s in
     (omega arith, sym (held-in 40 (k .bytes) (k .len) h))
 
+-- its first bytes are tested as they stand in the room: beyond the room neither test passes, within it they are the key
+pub whole-is : (longest : ℕ) (k : Key) → sound 40 (k .bytes) (k .len) && model.goodKey longest (take (k .len) (k .bytes)) ≡ soundKey k && model.goodKey longest (keyOf k)
+unfolding keyOf soundKey sound held
+whole-is longest k = go (leb (k .len) 40)
+  where
+    go : (t : Bool) → t && all isZero (drop (k .len) (k .bytes)) && model.goodKey longest (take (k .len) (k .bytes))
+        ≡ t && all isZero (drop (k .len) (k .bytes)) && model.goodKey longest (cond t (take (k .len) (k .bytes)) [])
+    go true = refl
+    go false = refl
+
 -- ---- user keys
 -- no user key is longer than the room
 pub userOf-length : (u : UserKey) → length (userOf u) ≤ 32

@@ -1,6 +1,6 @@
 // Internal keys, user keys and the two kinds of numbers, by value. Every function answers for every record, whatever its length says.
 ghost use mathlib.Core.Path.{_≡_};
-ghost use mathlib.Core.Bool.{cond};
+ghost use mathlib.Core.Bool.{cond, _&&_};
 ghost use mathlib.Core.List.{[]};
 ghost use lib.Dec.{leb};
 ghost use Prim.Native.Nat.{_-_, _%_, _≤_};
@@ -9,7 +9,7 @@ ghost use Rattle.lemmas.specs.Lists.{all};
 ghost use Rattle.model.specs.Key as model;
 ghost use Rattle.model.specs.File.{full};
 ghost use Rattle.octets.specs.Octets.{standing, isZero};
-ghost use Rattle.keys.specs.Key.{keyOf, userOf, keyRecord, userRecord, soundKey, soundUser, laid};
+ghost use Rattle.keys.specs.Key.{keyOf, userOf, keyRecord, userRecord, sound, soundKey, soundUser, laid};
 use octets::Order;
 
 // The number of a table file. No call takes it where a sequence number is meant.
@@ -62,15 +62,21 @@ fn key_len(k: Key) -> usize
     held_len(k.len, Key::ROOM)
 }
 
-// How many bytes of the key are the user key's: all but the trailer.
-fn user_len(k: Key) -> usize
-    ensures { λ r. ⌜ r ≡ length (model.user (keyOf k)) ⌝ }
+// How many bytes of a key of so many bytes are the user key's: all but the trailer.
+fn without_trailer(n: usize) -> usize
+    ensures { λ r. ⌜ r ≡ n - 8 ⌝ }
 {
-    let n = key_len(k);
     if n < Key::TRAILER {
         return 0;
     }
     n - Key::TRAILER
+}
+
+// How many bytes of the key are the user key's.
+fn user_len(k: Key) -> usize
+    ensures { λ r. ⌜ r ≡ length (model.user (keyOf k)) ⌝ }
+{
+    without_trailer(key_len(k))
 }
 
 // How many bytes the user key has: none where its length is beyond its room.
@@ -90,16 +96,6 @@ pub fn kind(k: Key) -> u8
     }
     let at = user_len(k);
     octets::byte(&k.bytes, at)
-}
-
-// How many bytes of a key of so many bytes are the user key's: all but the trailer.
-fn without_trailer(n: usize) -> usize
-    ensures { λ r. ⌜ r ≡ n - 8 ⌝ }
-{
-    if n < Key::TRAILER {
-        return 0;
-    }
-    n - Key::TRAILER
 }
 
 // The sequence of a key that is lent, the first bytes of a room: the trailer without its lowest byte.
@@ -154,6 +150,23 @@ pub fn precedes(a: &[u8], m: usize, b: &[u8], n: usize) -> bool
         return x < y;
     }
     rank_of(b, n) < rank_of(a, m)
+}
+
+// Whether the first n bytes of a lent room are a key, of a right length and type, and zeros stand past them.
+pub fn is_whole(a: &[u8], n: usize) -> bool
+    requires { ⌜ length (now a) ≡ 40 ⌝ }
+    ensures { λ r. ⌜ r ≡ sound 40 (now (a .entry)) n && model.goodKey (full .longest) (take n (now (a .entry))) ⌝ }
+{
+    if n <= Key::TRAILER {
+        return false;
+    }
+    if Key::ROOM < n {
+        return false;
+    }
+    if 1 < a[n - Key::TRAILER] {
+        return false;
+    }
+    octets::zeros_from(a, n)
 }
 
 // The bytes laid at the start of the output, as many as it has room for; past them the output is as it was.

@@ -1,14 +1,12 @@
 // File records by value, and what is asked of the files in a run of places. Every function answers for every record and every place.
 ghost use mathlib.Core.Path.{_≡_};
-ghost use mathlib.Core.List.{map};
 ghost use Prim.Native.Nat.{min};
-ghost use lib.ListN.{drop, replicate};
-ghost use lib.Seq.{slice};
+ghost use lib.ListN.{replicate};
 ghost use Rattle.lemmas.specs.Lists.{all};
 ghost use Rattle.lemmas.specs.Slices.{put};
 ghost use Rattle.model.specs.File.{File, seeks, total, numbers};
 ghost use Rattle.keys.specs.Key.{keyOf};
-ghost use Rattle.records.specs.Record.{fileOf, recordOf, blank, vacant, soundRecord, wellRecord, blankKey, isBlank, limitOf};
+ghost use Rattle.records.specs.Record.{recordOf, blank, vacant, wellRecord, blankKey, isBlank, limitOf};
 ghost use Rattle.records.specs.Run.{run, endsOf};
 use keys::FileNumber;
 use keys::Key;
@@ -117,42 +115,27 @@ pub fn blanks() -> [FileRecord; 256]
     [BLANK; 256]
 }
 
-// Whether zeros stand past the keys' ends and the allowed seeks are those of the size.
-pub fn is_sound(r: FileRecord) -> bool
-    ensures { λ b. ⌜ b ≡ soundRecord r ⌝ }
-{
-    let low = r.smallest;
-    if !keys::is_sound(low) {
-        return false;
-    }
-    let high = r.largest;
-    if !keys::is_sound(high) {
-        return false;
-    }
-    r.seeks == allowed_seeks(r.size)
-}
-
 // Whether a record is sound and its file well-formed: keys, smallest not after largest, size.
 pub fn is_well_formed(r: FileRecord) -> bool
     ensures { λ b. ⌜ b ≡ wellRecord r ⌝ }
 {
-    if !is_sound(r) {
-        return false;
-    }
     let low = r.smallest;
     let high = r.largest;
-    if !keys::is_good(low) {
-        return false;
-    }
-    if !keys::is_good(high) {
-        return false;
-    }
     let m = low.len;
     let n = high.len;
+    if !keys::is_whole(&low.bytes, m) {
+        return false;
+    }
+    if !keys::is_whole(&high.bytes, n) {
+        return false;
+    }
     if keys::precedes(&high.bytes, n, &low.bytes, m) {
         return false;
     }
-    r.size <= FileRecord::LARGEST_SIZE
+    if FileRecord::LARGEST_SIZE < r.size {
+        return false;
+    }
+    r.seeks == allowed_seeks(r.size)
 }
 
 // Whether the record of a key is that of no bytes.

@@ -9,11 +9,11 @@ use Rattle.keys.proofs.user_len.Tie as tie
 key-len-requires : tie.Need-key-len-requires
 key-len-requires c κs = search needs
 
+without-trailer-requires : tie.Need-without-trailer-requires
+without-trailer-requires c κs = search needs
+
 returns : tie.Need-returns
 returns c = omega (arith, user-length (keyOf (c .before .before .args .k)))
 
-returns-2 : tie.Need-returns-2
-returns-2 c = omega (arith, user-length (keyOf (c .before .before .args .k)))
-
 pub user-len-spec : {M : Type 1} → statement M
-user-len-spec = tie.close (tie.spec key-len-requires returns returns-2)
+user-len-spec = tie.close (tie.spec key-len-requires without-trailer-requires returns)

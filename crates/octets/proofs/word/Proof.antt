@@ -1,96 +1,49 @@
--- `octets::word` meets its contract. The loop's invariant: the bytes that are left go on from x to the whole number. Assumes nothing.
-use Prim.Native.Nat.{ℕ, suc, _+_, _-_, _*_, _^_, _≤_, _<_}
-use mathlib.Core.Path.{_≡_, sym, ap, _∙_}
+-- `octets::word` meets its contract: the first half goes before the second. Assumes nothing.
+use Prim.Native.Nat.{ℕ, _+_, _*_, _≤_}
+use mathlib.Core.Path.{_≡_, refl, sym, ap, _∙_}
+use mathlib.Core.List.{List, [], _∷_, _++_}
 use native.Mathlib.Omega.{arith}
-use lib.ListN.{getD, take, drop}
-use borrow.Author.Needs.{needs}
-use Rattle.lemmas.specs.Big.{big}
-use Rattle.lemmas.specs.Little.{number-grow, number-fits}
-use Rattle.lemmas.specs.Slices.{rest-cons}
+use lib.ListN.{length, take, drop, length-drop}
+use lib.Seq.{drop-drop, length-take-le}
+use Rattle.lemmas.specs.Big.{big, big-append}
 use Rattle.octets.proofs.word.Statement.{statement}
 use Rattle.octets.proofs.word.Tie as tie
 
-abbrev Inv-loop : tie.InvT-loop
-Inv-loop a at x₀ i₀ x i = (i ≤ 8) × (x < 256 ^ i) × (big x (take (8 - i) (drop (at + i) a)) ≡ big 0 (take 8 (drop at a)))
+half-requires : tie.Need-half-requires
+half-requires c κs = omega arith
 
-abbrev μ-loop : tie.MeasureT-loop
-μ-loop a at x₀ i₀ x i = 8 - i
+mul-result : tie.Need-mul-result
+mul-result c = omega (arith, c .half .ensures .1)
 
--- one more byte's room, which a u64 has
-room : (x b i : ℕ) → i < 8 → x < 256 ^ i → b < 256 → (b + 256 * x < 256 ^ (i + 1)) × (b + 256 * x < 2 ^ 64)
-room x b i h k l =
-    let g = number-grow x b i k l in
-    (g, number-fits (b + 256 * x) (i + 1) (omega arith) g)
+add-half : tie.Need-add-half
+add-half c = omega arith
 
-loop-holds : tie.Need-loop-holds Inv-loop μ-loop
-loop-holds c =
-    let a = c .before .args in
-    let same : a .at + 0 ≡ a .at = omega arith in
-    (omega arith, omega arith, ap (λ (j : ℕ). big 0 (take 8 (drop j (a .a .now)))) same)
+half-requires-2 : tie.Need-half-requires-2
+half-requires-2 c κs = omega arith
 
-mul-x : tie.Need-mul-x Inv-loop μ-loop
-mul-x c = omega (arith, room (c .before .loop .x) 0 (c .before .loop .i) (omega arith) (c .before .loop .inv .1) (omega arith) .1)
+add-result : tie.Need-add-result
+add-result c = omega (arith, c .before .half .ensures .1, c .half2 .ensures .1)
 
-add-wide : tie.Need-add-wide Inv-loop μ-loop
-add-wide c = omega arith
+-- eight bytes are four and four
+eight : (x : List ℕ) → take 8 x ≡ take 4 x ++ take 4 (drop 4 x)
+eight [] = refl
+eight (a ∷ []) = refl
+eight (a ∷ b ∷ []) = refl
+eight (a ∷ b ∷ c ∷ []) = refl
+eight (a ∷ b ∷ c ∷ d ∷ x) = refl
 
-shared-slice-read-wide : tie.Need-shared-slice-read-wide Inv-loop μ-loop
-shared-slice-read-wide c = omega arith
+-- their number is that of the first four, moved by four bytes, and that of the others
+halves : (a : List ℕ) (at : ℕ) → at + 8 ≤ length a → big 0 (take 8 (drop at a)) ≡ big 0 (take 4 (drop at a)) * 4294967296 + big 0 (take 4 (drop (at + 4) a))
+halves a at h =
+    let rest = drop-drop 4 at a in
+    let four : length (take 4 (drop (at + 4) a)) ≡ 4 = length-take-le 4 (drop (at + 4) a) (omega (arith, length-drop (at + 4) a)) in
+    ap (big 0) (eight (drop at a)) ∙ big-append 0 (take 4 (drop at a)) (take 4 (drop 4 (drop at a))) ∙ rw (rest, four)
 
-wide-requires : tie.Need-wide-requires Inv-loop μ-loop
-wide-requires c κs = search needs
-
--- what is read is a byte
-byte : (c : tie.After-wide Inv-loop μ-loop) → c .wide .result < 256
-byte c =
-    let l = c .before .before .before in
-    let s = l .before in
-    omega (arith, c .wide .ensures, s .shared-slice-known .given (s .before .args .at + l .loop .i))
-
-add-x : tie.Need-add-x Inv-loop μ-loop
-add-x c =
-    let l = c .before .before .before in
-    omega (arith, room (l .loop .x) (c .wide .result) (l .loop .i) (omega arith) (l .loop .inv .1) (byte c) .1)
-
-add-i : tie.Need-add-i Inv-loop μ-loop
-add-i c = omega arith
-
-loop-less : tie.Need-loop-less Inv-loop μ-loop
-loop-less c = omega arith
-
-loop-again : tie.Need-loop-again Inv-loop μ-loop
-unfolding big
-loop-again c =
-    let l = c .before .before .before in
-    let a = l .before .before .args .a .now in
-    let at = l .before .before .args .at + l .loop .i in
-    let i = l .loop .i in
-    let grown = room (l .loop .x) (c .wide .result) i (omega arith) (l .loop .inv .1) (byte c) .0 in
-    let left : 8 - i ≡ suc (8 - (i + 1)) = omega arith in
-    let next : at + 1 ≡ l .before .before .args .at + (i + 1) = omega arith in
-    let turn : big (l .loop .x) (take (8 - i) (drop at a)) ≡ big (l .loop .x * 256 + getD a at 0) (take (8 - (i + 1)) (drop (at + 1) a)) = rw (left, rest-cons a at 0 (omega arith)) in
-    (omega arith, omega (arith, grown), rw (c .wide .ensures, sym next) (sym turn ∙ l .loop .inv .2))
-
-returns : tie.Need-returns Inv-loop μ-loop
-unfolding big
+returns : tie.Need-returns
 returns c =
-    let l = c .before in
-    let none : 8 - l .loop .i ≡ 0 = omega arith in
-    rw none at (l .loop .inv .2)
+    let h = c .before in
+    let a = h .before .before .args in
+    rw (h .half .ensures .0, c .half2 .ensures .0) (sym (halves (a .a .now) (a .at) (omega arith)))
 
 pub word-spec : {M : Type 1} → statement M
-word-spec =
-    tie.close
-    (tie.spec
-    Inv-loop
-    μ-loop
-    loop-holds
-    mul-x
-    add-wide
-    shared-slice-read-wide
-    wide-requires
-    add-x
-    add-i
-    loop-less
-    loop-again
-    returns)
+word-spec = tie.close (tie.spec half-requires mul-result add-half half-requires-2 add-result returns)

@@ -1,100 +1,151 @@
 -- `records::is_well_formed` meets its contract. Assumes nothing.
 use Prim.Native.Nat.{_≤_}
-use mathlib.Core.Path.{_≡_, sym, _∙_}
-use mathlib.Core.Bool.{true}
+use mathlib.Core.Path.{_≡_, refl, sym, _∙_}
+use mathlib.Core.Bool.{Bool, true, false, not, _&&_, and-false}
 use native.Mathlib.Omega.{arith}
+use lib.Dec.{leb, eqb}
 use lib.ListN.{length, take}
 use borrow.Author.Needs.{needs}
-use borrow.Author.Tests.{not-true, not-false}
+use borrow.Author.Tests.{not-true, not-false, le-leb, lt-leb}
+use Rattle.lemmas.specs.ListLaws.{and-left, and-true}
 use Rattle.model.specs.Key.{goodKey, before}
-use Rattle.model.specs.File.{full, goodFile, maxSize}
-use Rattle.keys.specs.Key.{keyOf}
-use Rattle.keys.specs.KeyLaws.{sound-front}
+use Rattle.model.specs.File.{full, seeks, goodFile, maxSize}
+use Rattle.keys.specs.declared.Key.{Key}
+use Rattle.keys.specs.Key.{keyOf, soundKey}
+use Rattle.keys.specs.KeyLaws.{sound-front, whole-is}
+use Rattle.records.specs.declared.FileRecord.{FileRecord}
 use Rattle.records.specs.Record.{soundRecord, wellRecord, fileOf}
-use Rattle.records.specs.RecordLaws.{Shaped, sound-says}
+use Rattle.records.specs.RecordLaws.{Shaped}
 use Rattle.records.proofs.Shape.{shapes}
 use Rattle.records.proofs.is_well_formed.Statement.{statement}
 use Rattle.records.proofs.is_well_formed.Tie as tie
 
-is-sound-requires : tie.Need-is-sound-requires
-is-sound-requires c κs = search needs
+-- ---- the tests in the order in which they are made
+-- two tests in either order
+swap : (a b : Bool) → a && b ≡ b && a
+swap true b = sym (and-true b)
+swap false b = sym (and-false b)
+
+-- three tests of soundness and four of the file: each key's two together, the seeks last
+in-turn : (a b c p q o s : Bool) → a && b && c && (p && q && o && s) ≡ a && p && (b && q) && o && s && c
+in-turn false b c p q o s = refl
+in-turn true b c false q o s = and-false (b && c)
+in-turn true false c true q o s = refl
+in-turn true true c true q o s = swap c (q && o && s)
+
+-- a key's record is sound, and the key good
+abbrev whole : Key → Bool
+whole k = soundKey k && goodKey (full .longest) (keyOf k)
+
+-- a record is well-formed if the tests pass in that order
+well : (r : FileRecord) → wellRecord r ≡ whole (r .smallest) && whole (r .largest) && not (before (keyOf (r .largest)) (keyOf (r .smallest))) && leb (r .size) maxSize && eqb (r .seeks) (seeks (r .size))
+unfolding wellRecord soundRecord goodFile fileOf
+well r =
+    in-turn (soundKey (r .smallest)) (soundKey (r .largest)) (eqb (r .seeks) (seeks (r .size))) (goodKey (full .longest) (keyOf (r .smallest))) (goodKey (full .longest) (keyOf (r .largest)))
+    (not (before (keyOf (r .largest)) (keyOf (r .smallest)))) (leb (r .size) maxSize)
+
+-- ---- the smallest key
+abbrev at-low : tie.After-is-whole → tie.Start
+at-low c = c .before .before .before .before .before .before
+
+is-whole-requires : tie.Need-is-whole-requires
+is-whole-requires c κs = search needs
+
+-- what the test of the smallest key says
+low : (c : tie.After-is-whole) → c .is-whole .result ≡ whole (at-low c .args .r .smallest)
+low c = c .is-whole .ensures ∙ whole-is (full .longest) (at-low c .args .r .smallest)
 
 returns : tie.Need-returns
-unfolding wellRecord
-returns c = rw (sym (c .before .is-sound .ensures) ∙ not-true _ (c .if1 .taken))
+returns c = rw (well (at-low (c .before) .args .r), sym (low (c .before)) ∙ not-true _ (c .if1 .taken))
 
--- the record is sound
-sound : (c : tie.Else1) → soundRecord (c .before .before .args .r) ≡ true
-sound c = sym (c .before .is-sound .ensures) ∙ not-false _ (c .if1 .left)
+-- it passed
+low-whole : (c : tie.Else1) → whole (at-low (c .before) .args .r .smallest) ≡ true
+low-whole c = sym (low (c .before)) ∙ not-false _ (c .if1 .left)
 
-is-good-requires : tie.Need-is-good-requires
-is-good-requires c κs = search needs
+-- ---- the largest key
+abbrev past-low : tie.After-is-whole2 → tie.Else1
+past-low c = c .before .before .before .before
+
+abbrev at-high : tie.After-is-whole2 → tie.Start
+at-high c = at-low (past-low c .before)
+
+is-whole-requires-2 : tie.Need-is-whole-requires-2
+is-whole-requires-2 c κs = search needs
+
+-- what the test of the largest key says
+high : (c : tie.After-is-whole2) → c .is-whole2 .result ≡ whole (at-high c .args .r .largest)
+high c = c .is-whole2 .ensures ∙ whole-is (full .longest) (at-high c .args .r .largest)
 
 returns-2 : tie.Need-returns-2
-unfolding wellRecord goodFile fileOf
-returns-2 c = rw (sound (c .before .before .before .before), sym (c .before .is-good .ensures) ∙ not-true _ (c .if2 .taken))
+returns-2 c = rw (well (at-high (c .before) .args .r), low-whole (past-low (c .before)), sym (high (c .before)) ∙ not-true _ (c .if2 .taken))
 
--- its smallest key is a key
-low : (c : tie.Else2) → goodKey (full .longest) (keyOf (c .before .before .before .before .before .before .args .r .smallest)) ≡ true
-low c = sym (c .before .is-good .ensures) ∙ not-false _ (c .if2 .left)
+-- it passed
+high-whole : (c : tie.Else2) → whole (at-high (c .before) .args .r .largest) ≡ true
+high-whole c = sym (high (c .before)) ∙ not-false _ (c .if2 .left)
 
-is-good-requires-2 : tie.Need-is-good-requires-2
-is-good-requires-2 c κs = search needs
-
-returns-3 : tie.Need-returns-3
-unfolding wellRecord goodFile fileOf
-returns-3 c =
-    let e = c .before .before in
-    rw (sound (e .before .before .before .before), low e, sym (c .before .is-good2 .ensures) ∙ not-true _ (c .if3 .taken))
-
--- its largest key is a key
-high : (c : tie.Else3) → goodKey (full .longest) (keyOf (c .before .before .before .before .before .before .before .before .args .r .largest)) ≡ true
-high c = sym (c .before .is-good2 .ensures) ∙ not-false _ (c .if3 .left)
-
--- where its keys are lent, the first bytes that are compared are the keys
-abbrev lent : tie.After-precedes-arg4 → tie.Else3
+-- ---- the order of the two
+abbrev lent : tie.After-precedes-arg4 → tie.Else2
 lent c = c .before .before .before .before .before .before
 
-abbrev tested : tie.Else3 → tie.Else1
-tested g = g .before .before .before .before .before .before
+abbrev start : tie.Else2 → tie.Start
+start d = at-high (d .before)
 
-shape : (d : tie.Else1) → Shaped (d .before .before .args .r)
+-- the keys have their room
+shape : (d : tie.Else2) → Shaped (start d .args .r)
 shape d = search shapes
 
-smallest : (d : tie.Else1) → let k = d .before .before .args .r .smallest in (k .len ≤ length (k .bytes)) × (take (k .len) (k .bytes) ≡ keyOf k)
+-- the first bytes that are compared are the keys
+smallest : (d : tie.Else2) → let k = start d .args .r .smallest in (k .len ≤ length (k .bytes)) × (take (k .len) (k .bytes) ≡ keyOf k)
 smallest d =
-    let r = d .before .before .args .r in
-    sound-front (r .smallest) (shape d .smallest) (sound-says r .0 (sound d) .smallest)
+    let k = start d .args .r .smallest in
+    sound-front k (shape d .smallest) (and-left (soundKey k) (goodKey (full .longest) (keyOf k)) (low-whole (past-low (d .before))))
 
-largest : (d : tie.Else1) → let k = d .before .before .args .r .largest in (k .len ≤ length (k .bytes)) × (take (k .len) (k .bytes) ≡ keyOf k)
+largest : (d : tie.Else2) → let k = start d .args .r .largest in (k .len ≤ length (k .bytes)) × (take (k .len) (k .bytes) ≡ keyOf k)
 largest d =
-    let r = d .before .before .args .r in
-    sound-front (r .largest) (shape d .largest) (sound-says r .0 (sound d) .largest)
+    let k = start d .args .r .largest in
+    sound-front k (shape d .largest) (and-left (soundKey k) (goodKey (full .longest) (keyOf k)) (high-whole d))
 
 precedes-requires : tie.Need-precedes-requires
 precedes-requires c κs =
-    let d = tested (lent c) in
+    let d = lent c in
     let w = shape d in
     (largest d .0, omega arith, smallest d .0, omega arith)
 
 -- what the test of their order says
-order : (c : tie.After-precedes) → let r = tested (lent (c .before)) .before .before .args .r in c .precedes .result ≡ before (keyOf (r .largest)) (keyOf (r .smallest))
+order : (c : tie.After-precedes) → let r = start (lent (c .before)) .args .r in c .precedes .result ≡ before (keyOf (r .largest)) (keyOf (r .smallest))
 order c =
-    let d = tested (lent (c .before)) in
+    let d = lent (c .before) in
     rw (← largest d .1, ← smallest d .1) (c .precedes .ensures)
 
+returns-3 : tie.Need-returns-3
+returns-3 c =
+    let d = lent (c .before .before) in
+    rw (well (start d .args .r), low-whole (past-low (d .before)), high-whole d, sym (order (c .before)) ∙ c .if3 .taken)
+
+-- ---- size and seeks
+-- where the order is right, the rest decides
+rest : (c : tie.Else3) → let r = start (lent (c .before .before)) .args .r in wellRecord r ≡ leb (r .size) maxSize && eqb (r .seeks) (seeks (r .size))
+rest c =
+    let d = lent (c .before .before) in
+    rw (well (start d .args .r), low-whole (past-low (d .before)), high-whole d, sym (order (c .before)) ∙ c .if3 .left)
+
 returns-4 : tie.Need-returns-4
-unfolding wellRecord goodFile fileOf
+unfolding maxSize
 returns-4 c =
-    let g = lent (c .before .before) in
-    rw (sound (tested g), low (g .before .before), high g, sym (order (c .before)) ∙ c .if4 .taken)
+    let e = c .before .before in
+    let r = start (lent (e .before .before)) .args .r in
+    rw (rest e, lt-leb (r .size) 1099511627776 (omega arith))
+
+allowed-seeks-requires : tie.Need-allowed-seeks-requires
+allowed-seeks-requires c κs = search needs
 
 returns-5 : tie.Need-returns-5
-unfolding wellRecord goodFile fileOf maxSize
+unfolding maxSize
 returns-5 c =
-    let f = c .before in
-    let g = lent (f .before .before) in
-    rw (sound (tested g), low (g .before .before), high g, sym (order (f .before)) ∙ f .if4 .left)
+    let f = c .before .before in
+    let e = f .before .before in
+    let r = start (lent (e .before .before)) .args .r in
+    rw (rest e, le-leb (r .size) 1099511627776 (omega arith), ← c .before .allowed-seeks .ensures)
 
 pub is-well-formed-spec : {M : Type 1} → statement M
-is-well-formed-spec = tie.close (tie.spec is-sound-requires returns is-good-requires returns-2 is-good-requires-2 returns-3 precedes-requires returns-4 returns-5)
+is-well-formed-spec = tie.close (tie.spec is-whole-requires returns is-whole-requires-2 returns-2 precedes-requires returns-3 returns-4 allowed-seeks-requires returns-5)
