@@ -308,13 +308,13 @@ fn bench_read(files: u64, repeats: u64) -> u64 {
 // A size pick on a lent store, so many times, each on the store that the one before has left.
 fn bench_pick(files: u64, repeats: u64) -> u64 {
     let s = filled(files, LARGE);
-    taking::pick_many(s, MAXIMUM, repeats % 1000000000)
+    turning::pick_many(s, MAXIMUM, repeats % 1000000000)
 }
 
 // A manual pick at level 2 of the whole range on a lent store, so many times.
 fn bench_manual(files: u64, repeats: u64) -> u64 {
     let s = filled(files, LARGE);
-    taking::compact_many(
+    turning::compact_many(
         s,
         MAXIMUM,
         2,
@@ -562,7 +562,7 @@ fn is_operation(word: &[u8], n: usize, text: &[u8]) -> bool {
     words::is_word(word, 0, n, text)
 }
 
-// Picks from and questions of what was tested once.
+// Searches and questions of what was tested once.
 fn run_known(word: &[u8], n: usize, files: u64, repeats: u64) -> u64 {
     if is_operation(word, n, b"search") {
         return bench_search(files, repeats);

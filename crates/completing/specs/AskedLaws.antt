@@ -30,16 +30,8 @@ use Rattle.gathering.specs.SettledLaws.{settled-deeper, settled-widened}
 use Rattle.gathering.specs.CallsLaws.{level-run, level-ends}
 use Rattle.completing.specs.declared.Choice.{Choice}
 use Rattle.completing.specs.declared.Question.{Question}
-use Rattle.completing.specs.Choice.{askedLevel, askedSpan, askedMost, questionOf, filledWith, firsts, Stands}
+use Rattle.completing.specs.Choice.{askedLevel, askedSpan, askedMost, questionOf, filledWith, firsts, Stands, Widest, Finds}
 use Rattle.completing.specs.StandsLaws.{stands-next, filled-level, filled-maximum}
-
--- the range that a search goes by: where it widens the least widening, else the range itself
-abbrev pub Widest : Question → List FileRecord → Range → Type 0
-Widest a files w = ((a .widens ≡ true) × (w ≡ widen (run (a .from) (a .to) files) (spanOf (a .span)))) ⊎ ((a .widens ≡ false) × (w ≡ spanOf (a .span)))
-
--- what a search by a range finds
-abbrev pub Finds : Question → List FileRecord → Range → Found → Type 0
-Finds a files w f = Gathered files (a .from) (a .to) f × (run (f .from) (f .from + f .count) files ≡ upTo (a .most) 0 (keep (overlaps w) (run (a .from) (a .to) files)))
 
 -- ---- the places of a search
 module _ (s : Store) (c : Choice) (k : ℕ) where

@@ -1,14 +1,16 @@
 -- A pick on its way from one search to the next: what each search asks, what is kept of it, and what is known by then. Assumes nothing.
 use Prim.Native.Nat.{ℕ, zero, suc, _+_, _*_, _-_, _≤_}
 use mathlib.Core.Path.{_≡_}
-use mathlib.Core.Bool.{Bool, not, _&&_, cond}
+use mathlib.Core.Bool.{Bool, true, false, not, _&&_, cond}
+use mathlib.Core.Logic.{_⊎_}
 use mathlib.Core.List.{List, [], _∷_, _++_}
 use lib.Dec.{eqb, ltb}
 use lib.ListN.{getD, take}
-use Rattle.lemmas.specs.Lists.{sum}
+use Rattle.lemmas.specs.Lists.{keep, sum}
 use Rattle.model.specs.File.{File, full, level}
 use Rattle.model.specs.Pick.{upTo, grownFirst, grandOf}
-use Rattle.model.specs.Range.{overlapping, rangeOf}
+use Rattle.model.specs.Range.{Range, overlaps, overlapping, rangeOf, widen}
+use Rattle.records.specs.Run.{run}
 use Rattle.records.specs.declared.FileRecord.{FileRecord}
 use Rattle.levels.specs.Levels.{laidOut}
 use Rattle.store.specs.declared.Store.{Store}
@@ -16,7 +18,7 @@ use Rattle.store.specs.Store.{stateOf}
 use Rattle.ranges.specs.declared.Span.{Span}
 use Rattle.ranges.specs.Ranges.{spanOf}
 use Rattle.gathering.specs.declared.Found.{Found}
-use Rattle.gathering.specs.Found.{noneAt, inputsOf, Held, Summed, rangeFound, jointFound}
+use Rattle.gathering.specs.Found.{noneAt, inputsOf, Gathered, Held, Summed, rangeFound, jointFound}
 use Rattle.completing.specs.declared.Choice.{Choice}
 use Rattle.completing.specs.declared.Question.{Question}
 use Rattle.completing.specs.declared.Runs.{Runs}
@@ -53,6 +55,14 @@ questionOf c k counts =
     let l = askedLevel (c .level) k in
     let from = cond (ltb l 7) (sum (take l counts)) 0 in
     record { from = from; to = from + getD counts l 0; widens = eqb l 0; span = askedSpan c k; most = askedMost c k }
+
+-- the range that a search goes by: where it widens the least widening, else the range itself
+abbrev pub Widest : Question → List FileRecord → Range → Type 0
+Widest a files w = ((a .widens ≡ true) × (w ≡ widen (run (a .from) (a .to) files) (spanOf (a .span)))) ⊎ ((a .widens ≡ false) × (w ≡ spanOf (a .span)))
+
+-- what a search by a range finds
+abbrev pub Finds : Question → List FileRecord → Range → Found → Type 0
+Finds a files w f = Gathered files (a .from) (a .to) f × (run (f .from) (f .from + f .count) files ≡ upTo (a .most) 0 (keep (overlaps w) (run (a .from) (a .to) files)))
 
 -- ---- what is kept of what it found
 -- the grown files replace the first inputs

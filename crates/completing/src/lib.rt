@@ -1,15 +1,11 @@
-// The searches of a pick, one after another: first inputs by a range, second inputs, growth, grandparents; and the files that they chose, copied once.
+// A pick on its way from one search to the next: what each search asks, what is kept of what it found, and where the files stand that were chosen.
 ghost use mathlib.Core.Path.{_≡_};
-ghost use mathlib.Core.Bool.{true};
 ghost use Prim.Native.Nat.{_+_, _<_, _≤_};
 ghost use Rattle.lemmas.specs.Lists.{sum};
-ghost use Rattle.store.specs.Store.{wellStore};
-ghost use Rattle.completing.specs.Choice.{begun, askedLevel, askedSpan, askedMost, questionOf, growsBy, filledWith, runsOf, placeIn, firsts, Stands, laidChoice};
+ghost use Rattle.completing.specs.Choice.{begun, askedLevel, askedSpan, askedMost, questionOf, growsBy, filledWith, runsOf, placeIn};
 use gathering::Found;
 use ranges::Span;
-use records::FileRecord;
 use records::Level;
-use store::Store;
 
 // A pick on its way: its level and maximum file size, the range and the limit of bytes that its first inputs are asked by, and what was found so far.
 pub struct Choice {
@@ -28,12 +24,6 @@ impl Choice {
     pub const SEARCHES: usize = 5;
     // The inputs of a pick may grow while their bytes are below so many times the maximum file size.
     pub const GROWTH_TIMES: u64 = 25;
-}
-
-// What was chosen, and its files: first inputs, second inputs and grandparents one after another with blank records past them.
-pub struct Chosen {
-    pub files: [FileRecord; 256],
-    pub choice: Choice,
 }
 
 // What a search asks for: the places of a level, whether its range is widened, the range, and a limit of bytes.
@@ -123,7 +113,7 @@ fn asked_most(c: Choice, k: usize) -> u64
 }
 
 // The k-th search of a pick. For callers of this repository, whose counts are within the room.
-fn asked(c: Choice, k: usize, counts: [usize; 7]) -> Question
+pub fn asked(c: Choice, k: usize, counts: [usize; 7]) -> Question
     requires { ⌜ (c .level < 7) × (k < 5) × (sum counts ≤ 256) ⌝ }
     ensures { λ r. ⌜ r ≡ questionOf c k counts ⌝ }
 {
@@ -163,7 +153,7 @@ fn grows(c: Choice, again: usize) -> bool
 }
 
 // What the k-th search found, kept: by the fourth the grown files take the place of the first inputs, or not. For callers of this repository, as above.
-fn filled(c: Choice, k: usize, found: Found) -> Choice
+pub fn filled(c: Choice, k: usize, found: Found) -> Choice
     requires { ⌜ (k < 5) × (c .maximum ≤ 4294967296) × (c .grown .bytes ≤ 281474976710656) × (c .second .bytes ≤ 281474976710656) ⌝ }
     ensures { λ r. ⌜ r ≡ filledWith c k found ⌝ }
 {
@@ -192,7 +182,7 @@ fn filled(c: Choice, k: usize, found: Found) -> Choice
 }
 
 // The runs of what was chosen. For callers of this repository, whose counts are within the room.
-fn runs_of(c: Choice) -> Runs
+pub fn runs_of(c: Choice) -> Runs
     requires { ⌜ c .first .count + c .second .count + c .grand .count ≤ 256 ⌝ }
     ensures { λ r. ⌜ r ≡ runsOf c ⌝ }
 {
@@ -209,7 +199,7 @@ fn runs_of(c: Choice) -> Runs
 }
 
 // The j-th place of three runs. For callers of this repository, whose places are within the room.
-fn place_of(r: Runs, j: usize) -> usize
+pub fn place_of(r: Runs, j: usize) -> usize
     requires { ⌜ (j < 256) × (r .first ≤ 256) × (r .second ≤ 256) × (r .third ≤ 256) ⌝ }
     ensures { λ i. ⌜ i ≡ placeIn r j ⌝ }
 {
@@ -220,53 +210,4 @@ fn place_of(r: Runs, j: usize) -> usize
         return r.second + (j - r.one);
     }
     r.third + (j - r.two)
-}
-
-// The searches of a pick from the start-th up to the end-th, one after another: of a level, at level 0 by the least widening of the range, first the files that
-// end before the range are passed, by halves, then those up to the first that begins after it are taken. The array goes to no function but at level 0: each would copy it.
-// For callers of this repository, who have tested the store, M and the level.
-pub fn choose(s: Store, c: Choice, start: usize, end: usize) -> Chosen
-    requires { ⌜ (wellStore s ≡ true) × (c .level < 7) × (c .maximum ≤ 4294967296) × (start ≤ end) × (end ≤ 5) × Stands s (firsts s start c) start c ⌝ }
-    ensures { λ r. ⌜ Stands s (firsts s start c) end (r .choice) × (r .files ≡ laidChoice s (r .choice)) × (r .choice .level ≡ c .level) × (r .choice .maximum ≡ c .maximum) ⌝ }
-{
-    let files = s.files;
-    let counts = s.counts;
-    let mut d = c;
-    let mut k = start;
-    while k < end {
-        let q = asked(d, k, counts);
-        let mut span = q.span;
-        if q.widens {
-            span = ranges::widened(files, q.from, q.to, span);
-        }
-        let mut lo = q.from;
-        let mut hi = q.to;
-        while lo < hi {
-            let m = lo + (hi - lo) / 2;
-            let f = files[m];
-            if keys::user_is_after(span.start, f.largest) {
-                lo = m + 1;
-            } else {
-                hi = m;
-            }
-        }
-        let mut found = gathering::nothing_at(lo);
-        while lo < q.to && gathering::is_taken(found.bytes, q.most, span.stop, files[lo]) {
-            found = gathering::with_file(found, files[lo]);
-            lo += 1;
-        }
-        d = filled(d, k, found);
-        k += 1;
-    }
-    let runs = runs_of(d);
-    let mut r = Chosen {
-        files: records::blanks(),
-        choice: d,
-    };
-    let mut j: usize = 0;
-    while j < runs.three {
-        r.files[j] = files[place_of(runs, j)];
-        j += 1;
-    }
-    r
 }

@@ -7,7 +7,7 @@ use lib.ListN.{length, take, drop, replicate}
 use Rattle.lemmas.specs.Lists.{all, join, sum, distinct}
 use Rattle.lemmas.specs.Slices.{put, parts}
 use Rattle.model.specs.Key.{before}
-use Rattle.model.specs.File.{File, full, bySmallest, goodFiles, inOrder, levelwise, numbers}
+use Rattle.model.specs.File.{File, full, bySmallest, goodFiles, inOrder, levelwise, numbers, total}
 use Rattle.records.specs.Record.{fileOf, recordOf, vacant, soundRecord, wellRecord, isBlank}
 use Rattle.records.specs.Run.{run}
 use Rattle.records.specs.declared.FileRecord.{FileRecord}
@@ -46,12 +46,12 @@ arranged files counts =
 
 -- nothing seen
 unfoldable pub unarranged : Surveyed
-unarranged = record { numbers = replicate 256 0; total = 0; arranged = false }
+unarranged = record { numbers = replicate 256 0; bytes = replicate 7 0; total = 0; arranged = false }
 
 -- what one look at levels tells
 unfoldable pub surveyOf : List FileRecord → List ℕ → Surveyed
 surveyOf files counts =
-    cond (arranged files counts) (record { numbers = put (replicate 256 0) 0 (numbers (run 0 (sum counts) files)); total = sum counts; arranged = true }) unarranged
+    cond (arranged files counts) (record { numbers = put (replicate 256 0) 0 (numbers (run 0 (sum counts) files)); bytes = map total (levelsOf files counts); total = sum counts; arranged = true }) unarranged
 
 -- what it tells of them: well-formed where they are arranged and no number stands twice
 unfoldable pub tellsWell : Surveyed → Bool

@@ -7,20 +7,22 @@ use mathlib.Core.List.{List, [], _∷_, _++_, map, List·Memᴰ as In}
 use native.Mathlib.Omega.{arith}
 use native.Mathlib.Numerals.{add-one}
 use lib.Dec.{eqb, leb, ltb}
-use borrow.Author.Tests.{leb-true, le-leb, lt-leb, ltb-true, lt-ltb, eqb-true, eq-eqb}
-use lib.ListN.{length, getD, take, drop, replicate, length-map, length-drop, length-replicate, take-append-drop, List·getD-map}
+use borrow.Author.Tests.{leb-true, le-leb, lt-leb, ltb-true, ltb-false, lt-ltb, eqb-true, eq-eqb}
+use lib.ListN.{length, getD, set, take, drop, replicate, length-map, length-drop, length-replicate, take-append-drop, List·getD-map}
 use lib.Seq.{slice, take-at, drop-at, length-take-le, take-take}
 use Rattle.lemmas.specs.Lists.{all, chain, join, sum, distinct}
 use Rattle.lemmas.specs.ListLaws.{and-left, and-right, and-true, both, all-in, join-empties}
-use Rattle.lemmas.specs.Slices.{put, parts, part-at, parts-turn, parts-over, length-parts, join-parts, lengths-parts, sum-lengths, put-parts, put-front, put-nil, length-put, drop-replicate}
+use Rattle.lemmas.specs.Slices.{put, parts, part-at, parts-turn, parts-over, length-parts, join-parts, lengths-parts, sum-lengths, put-parts, put-front, put-cons, put-nil, put-whole, length-put, drop-replicate}
 use Rattle.lemmas.specs.Loops.{chain-map-broken, chain-map-goes-on, chain-map-ended}
 use Rattle.lemmas.specs.Merge.{all-take, all-drop}
 use Rattle.lemmas.specs.Maps.{join-map, lengths-map, all-join}
 use Rattle.lemmas.specs.Each.{Each, each-take, each-drop, each-put, each-replicate}
 use Rattle.model.specs.Key.{before}
-use Rattle.model.specs.File.{File, full, bySmallest, inOrder, levelwise, goodFile, goodFiles, numbers}
+use Rattle.model.specs.File.{File, full, bySmallest, inOrder, levelwise, goodFile, goodFiles, numbers, total, maxSize}
+use Rattle.model.specs.SnapshotLaws.{file-facts}
 use Rattle.records.specs.Record.{fileOf, recordOf, blank, vacant, soundRecord, wellRecord, isBlank}
 use Rattle.records.specs.RecordLaws.{past, Shaped, AllShaped, AllWords, sound-list, blank-list, vacant-blank, blank-shaped, well-list, well-list-is, files-of-records, records-well, records-shaped, column-run}
+use Rattle.records.specs.RecordLaws.{well-says as record-says}
 use Rattle.records.specs.Run.{run}
 use Rattle.records.specs.declared.FileRecord.{FileRecord}
 use Rattle.levels.specs.declared.Surveyed.{Surveyed}
@@ -102,6 +104,18 @@ module _ (l i e : ℕ) (files : List FileRecord) (k : e ≤ length files) where
   unfolding run
   none-next h = in-order-is l (run (i - 1) e files) ∙ chain-map-ended fileOf (follows l) (i - 1) e files past (omega arith) k
 
+-- all files of a level have passed: it is in order, where the files from the one before the next decide as soon as one has passed
+pub level-ordered : (l from i e : ℕ) (files : List FileRecord) → e ≤ length files → e ≤ i → (from < i → inOrder l (run (i - 1) e files) ≡ inOrder l (run from e files))
+    → inOrder l (run from e files) ≡ true
+level-ordered l from i e files k h d = go (ltb from i) refl
+  where
+    go : (t : Bool) → ltb from i ≡ t → inOrder l (run from e files) ≡ true
+    go true t = sym (d (ltb-true from i t)) ∙ none-next l i e files k h
+    go false t =
+        let n : from + 1 - 1 ≡ from = omega arith in
+        let ended : e ≤ from + 1 = omega (arith, ltb-false from i t) in
+        sym (ap (λ (j : ℕ). inOrder l (run j e files)) n) ∙ none-next l (from + 1) e files k ended
+
 -- ---- the files of all levels
 
 module _ (files : List FileRecord) (counts : List ℕ) where
@@ -124,6 +138,31 @@ module _ (files : List FileRecord) (counts : List ℕ) where
   pub level-run : (l : ℕ) → l < length counts → getD (levelsOf files counts) l [] ≡ run (sum (take l counts)) (sum (take l counts) + getD counts l 0) files
   unfolding levelsOf run
   level-run l h = List·getD-map (map fileOf) (parts files counts) l [] ∙ ap (map fileOf) (part-at files counts l h)
+
+-- ---- the bytes, level by level
+
+module _ (files : List FileRecord) (counts : List ℕ) where
+  -- one more level's bytes are laid down
+  pub bytes-turn : (out : List ℕ) (l from : ℕ) → l < length counts → l < length out
+      → put (set out l (total (run from (from + getD counts l 0) files))) (l + 1) (map total (levelsOf (drop (from + getD counts l 0) files) (drop (l + 1) counts)))
+      ≡ put out l (map total (levelsOf (drop from files) (drop l counts)))
+  bytes-turn out l from h k =
+      let to = from + getD counts l 0 in
+      put-cons out l (total (run from to files)) (map total (levelsOf (drop to files) (drop (l + 1) counts))) k
+      ∙ ap (λ (ls : List (List File)). put out l (map total ls)) (sym (levels-turn files counts l from h))
+
+  -- no level is left
+  pub bytes-over : (out : List ℕ) (l from : ℕ) → length counts ≤ l → put out l (map total (levelsOf (drop from files) (drop l counts))) ≡ out
+  bytes-over out l from h = ap (λ (ls : List (List File)). put out l (map total ls)) (levels-over files counts l from h) ∙ put-nil out l
+
+  -- all are laid down over as many places
+  pub bytes-start : (d : List ℕ) → length d ≡ length counts → put d 0 (map total (levelsOf files counts)) ≡ map total (levelsOf files counts)
+  bytes-start d e = put-whole d (map total (levelsOf files counts)) (length-map (levelsOf files counts) total ∙ levels-number files counts ∙ sym e)
+
+-- the file of a well-formed record has no more than 2^40 bytes
+pub size-bound : (r : FileRecord) → wellRecord r ≡ true → r .size ≤ 2 ^ 40
+unfolding maxSize fileOf
+size-bound r h = file-facts full (fileOf r) (record-says r .0 h .1) .size
 
 -- ---- one list of levels, one array
 
@@ -311,6 +350,11 @@ words-good (r ∷ rs) w = rw (lt-ltb (r .number .0) (2 ^ 64) (w .0), words-good 
 
 -- ---- one look at levels
 
+-- a test whose last part fails
+pub last-fails : (a b : Bool) → b ≡ false → a && b ≡ false
+last-fails true b e = e
+last-fails false b e = refl
+
 module _ (files : List FileRecord) (counts : List ℕ) where
   -- more files than there is room for
   pub too-many : 256 < sum counts → arranged files counts ≡ false
@@ -328,9 +372,9 @@ module _ (files : List FileRecord) (counts : List ℕ) where
   unfolding surveyOf
   survey-none t = rw t
 
-  -- all numbers are seen of levels that are
+  -- all numbers and bytes are seen of levels that are
   pub survey-all : arranged files counts ≡ true
-      → surveyOf files counts ≡ record { numbers = put (replicate 256 0) 0 (numbers (run 0 (sum counts) files)); total = sum counts; arranged = true }
+      → surveyOf files counts ≡ record { numbers = put (replicate 256 0) 0 (numbers (run 0 (sum counts) files)); bytes = map total (levelsOf files counts); total = sum counts; arranged = true }
   unfolding surveyOf
   survey-all t = rw t
 
@@ -343,14 +387,28 @@ module _ (files : List FileRecord) (counts : List ℕ) where
       go true e = rw (survey-all e) (sym e)
       go false e = rw (survey-none e) (sym e)
 
-  -- a column of them beside their number is that
-  pub survey-is : (n : ℕ) (column : List ℕ) → arranged files counts ≡ true → n ≡ sum counts → column ≡ put (replicate 256 0) 0 (numbers (run 0 n files))
-      → record { numbers = column; total = n; arranged = true } ≡ surveyOf files counts
-  survey-is n column t e f =
-      ap (λ (ns : List ℕ). seen ns n) f ∙ ap (λ (k : ℕ). seen (put (replicate 256 0) 0 (numbers (run 0 k files))) k) e ∙ sym (survey-all t)
+  -- a column of the numbers and the sums of the levels, beside the number of files, are that
+  pub survey-is : (n : ℕ) (column sums : List ℕ) → arranged files counts ≡ true → n ≡ sum counts → column ≡ put (replicate 256 0) 0 (numbers (run 0 n files))
+      → sums ≡ map total (levelsOf files counts) → record { numbers = column; bytes = sums; total = n; arranged = true } ≡ surveyOf files counts
+  survey-is n column sums t e f g =
+      cc (f, g) ∙ ap (λ (k : ℕ). seen (put (replicate 256 0) 0 (numbers (run 0 k files))) k) e ∙ sym (survey-all t)
     where
       seen : List ℕ → ℕ → Surveyed
-      seen ns k = record { numbers = ns; total = k; arranged = true }
+      seen ns k = record { numbers = ns; bytes = map total (levelsOf files counts); total = k; arranged = true }
+
+  -- well-formed levels are arranged
+  well-arranged : length files ≡ 256 → wellLevels files counts ≡ true → arranged files counts ≡ true
+  well-arranged q h =
+      let w = well-says files counts .0 h in
+      let room = w .sound .room in
+      let rs = take (sum counts) files in
+      let good : all (goodFile full) (map fileOf rs) ≡ true = rw (files-of-levels files counts (omega arith)) at (w .good .fits .good) in
+      let records : all wellRecord rs ≡ true = well-list-is rs ∙ both (all soundRecord rs) (all (goodFile full) (map fileOf rs)) (w .sound .records) good in
+      rw (arranged-is room, records, w .sound .blanks) (w .good .ordered)
+
+  -- so a survey tells their bytes
+  pub survey-bytes : length files ≡ 256 → wellLevels files counts ≡ true → surveyOf files counts .bytes ≡ map total (levelsOf files counts)
+  survey-bytes q h = ap (λ (v : Surveyed). v .bytes) (survey-all (well-arranged q h))
 
   -- levels that are arranged have room
   pub arranged-room : arranged files counts ≡ true → sum counts ≤ 256
@@ -376,11 +434,7 @@ regroup t a b u c d v e p q r = rw (p, q, r) (go a b c d)
   where
     go : (a b c d : Bool) → (a && b) && (c && d && true && e) ≡ (a && c) && b && d && e
     go false b c d = refl
-    go true b false d = nothing b
-      where
-        nothing : (b : Bool) → b && false ≡ false
-        nothing true = refl
-        nothing false = refl
+    go true b false d = last-fails b false refl
     go true true true true = refl
     go true true true false = refl
     go true false true d = refl

@@ -25,9 +25,10 @@ pub fn counted(counts: [usize; 7]) -> usize
     sum
 }
 
-// What one look at levels tells: the numbers of their files, zeros past them; how many there are; whether all but the numbers is as document 01 has it.
+// What one look at levels tells: the numbers of their files, zeros past them; the bytes of each level; how many files there are; whether all but the numbers is as document 01 has it.
 pub struct Surveyed {
     pub numbers: [u64; 256],
+    pub bytes: [u64; 7],
     pub total: usize,
     pub arranged: bool,
 }
@@ -65,12 +66,13 @@ fn nothing_seen() -> Surveyed
 {
     Surveyed {
         numbers: [0u64; 256],
+        bytes: [0u64; 7],
         total: 0,
         arranged: false,
     }
 }
 
-// One look at levels: whether room, records, blank places and order are as document 01 has them, and the files' numbers if so. The array goes to no other function:
+// One look at levels: whether room, records, blank places and order are as document 01 has them, and the files' numbers and bytes if so. The array goes to no other function:
 // each would copy it.
 pub fn survey(files: [FileRecord; 256], counts: [usize; 7]) -> Surveyed
     ensures { λ r. ⌜ (r ≡ surveyOf files counts) × (tellsWell r ≡ wellLevels files counts) ⌝ }
@@ -80,14 +82,27 @@ pub fn survey(files: [FileRecord; 256], counts: [usize; 7]) -> Surveyed
         return nothing_seen();
     }
     let mut column = [0u64; 256];
+    let mut sums = [0u64; 7];
     let mut i: usize = 0;
-    while i < n {
-        let f = files[i];
-        if !records::is_well_formed(f) {
-            return nothing_seen();
+    let mut level: usize = 0;
+    while level < Level::COUNT {
+        let from = i;
+        let to = i + counts[level];
+        let mut bytes: u64 = 0;
+        while i < to {
+            let f = files[i];
+            if !records::is_well_formed(f) {
+                return nothing_seen();
+            }
+            if from < i && !may_follow(level, files[i - 1], f) {
+                return nothing_seen();
+            }
+            column[i] = f.number.0;
+            bytes += f.size;
+            i += 1;
         }
-        column[i] = f.number.0;
-        i += 1;
+        sums[level] = bytes;
+        level += 1;
     }
     while i < 256 {
         if !records::is_blank(files[i]) {
@@ -95,22 +110,9 @@ pub fn survey(files: [FileRecord; 256], counts: [usize; 7]) -> Surveyed
         }
         i += 1;
     }
-    let mut from: usize = 0;
-    let mut level: usize = 0;
-    while level < Level::COUNT {
-        let to = from + counts[level];
-        let mut next = from + 1;
-        while next < to {
-            if !may_follow(level, files[next - 1], files[next]) {
-                return nothing_seen();
-            }
-            next += 1;
-        }
-        from = to;
-        level += 1;
-    }
     Surveyed {
         numbers: column,
+        bytes: sums,
         total: n,
         arranged: true,
     }

@@ -66,7 +66,7 @@ pub fn overlapping_inputs(s: Store, level: usize, start: Key, stop: Key) -> List
     }
     let span = ranges::between(start, stop);
     let asked = completing::asking(level, 0, span, Found::ALL);
-    let chosen = completing::choose(s, asked, 0, 1);
+    let chosen = choosing::chosen_of(s, asked, 0, 1);
     let files = chosen.files;
     let list = FileList {
         files: files,

@@ -72,15 +72,6 @@ module _ (s : Store) (call : State → Answer model.Pick) (sound : (k : model.Pi
             store = store.held-well (k .after) (formed-says full (k .after) .1 (g .keeps));
           }
 
-  -- a well-formed store is left well-formed, whatever the answer
-  leaves : wellStore s ≡ true → wellStore (pickOf s (onStore s call) .store) ≡ true
-  unfolding pickOf
-  leaves h = go (onStore s call) refl
-    where
-      go : (a : Answer model.Pick) → onStore s call ≡ a → wellStore (pickOf s a .store) ≡ true
-      go (refused n) e = h
-      go (gives k) e = store.held-well (k .after) (formed-says full (k .after) .1 (sound k (given-on s call k e) .keeps))
-
 -- a size pick
 module _ (s : Store) (m : ℕ) where
   size-sound : (k : model.Pick) → sizePick full (stateOf s) m ≡ gives k → Sound (stateOf s) k
@@ -96,9 +87,6 @@ module _ (s : Store) (m : ℕ) where
   pub size-accepted : pickOf s (onStore s (λ t. sizePick full t m)) .outcome ≡ Done → Accepted s (pickOf s (onStore s (λ t. sizePick full t m)))
   size-accepted = by-value s (λ t. sizePick full t m) size-sound
 
-  pub size-leaves : wellStore s ≡ true → wellStore (pickOf s (onStore s (λ t. sizePick full t m)) .store) ≡ true
-  size-leaves = leaves s (λ t. sizePick full t m) size-sound
-
 -- a manual pick
 module _ (s : Store) (m l : ℕ) (a b : Key) where
   range-sound : (k : model.Pick) → manualPick full (stateOf s) m l a b ≡ gives k → Sound (stateOf s) k
@@ -112,9 +100,6 @@ module _ (s : Store) (m l : ℕ) (a b : Key) where
 
   pub range-accepted : pickOf s (onStore s (λ t. manualPick full t m l a b)) .outcome ≡ Done → Accepted s (pickOf s (onStore s (λ t. manualPick full t m l a b)))
   range-accepted = by-value s (λ t. manualPick full t m l a b) range-sound
-
-  pub range-leaves : wellStore s ≡ true → wellStore (pickOf s (onStore s (λ t. manualPick full t m l a b)) .store) ≡ true
-  range-leaves = leaves s (λ t. manualPick full t m l a b) range-sound
 
 -- a refused pick leaves the store as it was
 pub refused-leaves : (s : Store) (a : Answer model.Pick) (n : ℕ) → pickOf s a .outcome ≡ Refused n → pickOf s a .store ≡ s

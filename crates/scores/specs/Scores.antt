@@ -4,10 +4,11 @@ use mathlib.Core.Bool.{false}
 use mathlib.Core.List.{List, [], _∷_}
 use lib.IntN.{pos}
 use lib.Ieee.{fin}
-use lib.ListN.{getD}
+use lib.ListN.{getD, set}
 use Rattle.model.specs.Answer.{Answer, gives, refused}
 use Rattle.model.specs.File.{State, full}
 use Rattle.model.specs.Score.{Score, byteLimit, score, levelToCompact, due, reported}
+use Rattle.model.specs.ScoreLaws.{bestFrom}
 use Rattle.model.specs.Calls as calls
 use Rattle.answers.specs.Outcome.{outcomeOf}
 use Rattle.scores.specs.declared.Scored.{Scored}
@@ -38,6 +39,14 @@ pub record Amounts (amounts : List ℕ) : Type 0 where
 -- a level and its score, with the score as reported and whether work is due
 unfoldable pub scoredAs : ℕ → Score → Scored
 scoredAs l c = record { level = l; amount = c .part; limit = c .whole; score = reported c; due = due c }
+
+-- the amounts of levels of these bytes and counts: at level 0 its files, deeper the bytes
+unfoldable pub amountsBy : List ℕ → List ℕ → List ℕ
+amountsBy bytes counts = set bytes 0 (getD counts 0 0)
+
+-- the level to compact by the amounts of all levels, the lowest of those with the greatest score, and its score
+unfoldable pub scoredBy : List ℕ → Scored
+scoredBy amounts = let l = bestFrom (scoresBy amounts) 0 1 5 in scoredAs l (scoresBy amounts l)
 
 -- the level to compact and its score
 unfoldable pub scoredOf : State → Scored

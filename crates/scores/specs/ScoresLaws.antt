@@ -1,4 +1,4 @@
--- Laws of scores: the bytes level by level, fractions by one whole, the level to compact by the amounts, and the answer's cases. Assumes nothing.
+-- Laws of scores: fractions by one whole, the level to compact by the amounts, and the answer's cases. Assumes nothing.
 use Prim.Native.Nat.{ℕ, zero, suc, _+_, _*_, _-_, _^_, _<_, _≤_}
 use mathlib.Core.Path.{_≡_, refl, sym, ap, subst, _∙_}
 use mathlib.Core.Bool.{Bool, true, false, cond}
@@ -7,69 +7,25 @@ use native.Mathlib.Numerals.{add-one}
 use native.Mathlib.Omega.{arith}
 use lib.Dec.{ltb}
 use borrow.Author.Tests.{lt-ltb, le-leb}
-use lib.ListN.{length, getD, take, drop, set, length-map, List·getD-map}
-use lib.Seq.{slice, take-take, getD-set-same, getD-set-other}
+use lib.ListN.{length, getD, set, length-map, List·getD-map}
+use lib.Seq.{getD-set-same, getD-set-other}
 use lib.Ieee.{binary64, ofInt, div, toBits, round, units, odd, size, span, climb}
 use Rattle.lemmas.specs.Fractions.{over-one}
-use Rattle.lemmas.specs.Lists.{all, sum}
+use Rattle.lemmas.specs.Lists.{sum}
 use Rattle.lemmas.specs.ListLaws.{join-in, join-length}
-use Rattle.lemmas.specs.Slices.{put, put-cons, put-nil, put-whole, slice-map}
-use Rattle.lemmas.specs.Merge.{all-take, all-drop}
 use Rattle.model.specs.Answer.{refused, firstOf, _⇒_}
-use Rattle.model.specs.File.{File, State, full, level, total, maxSize, goodFile, wellFormed}
-use Rattle.model.specs.Formed.{WF, goodFile-says}
+use Rattle.model.specs.File.{State, full, level, total, maxSize, wellFormed}
+use Rattle.model.specs.Formed.{WF, goodFile-says, formed-says}
 use Rattle.model.specs.Score.{Score, lower, byteLimit, score, levelToCompact, reported}
-use Rattle.model.specs.ScoreLaws.{bestFrom, best-level, level-is, total-most, Lossless, lossless}
+use Rattle.model.specs.ScoreLaws.{bestFrom, best-level, level-is, total-most, Lossless}
 use Rattle.model.specs.Calls as calls
-use Rattle.records.specs.Record.{fileOf, limitOf}
-use Rattle.records.specs.RecordLaws.{total-bound}
-use Rattle.records.specs.Run.{run}
-use Rattle.records.specs.declared.FileRecord.{FileRecord}
-use Rattle.levels.specs.Levels.{levelsOf, wellLevels}
-use Rattle.levels.specs.LevelsLaws.{levels-turn, levels-over, levels-number, files-of-levels}
-use Rattle.levels.specs.LevelsLaws as levels
-use Rattle.store.specs.Store.{stateOf, wellStore, onStore}
+use Rattle.records.specs.Record.{limitOf}
+use Rattle.store.specs.Store.{stateOf, wellStore, lookOf, onStore}
 use Rattle.store.specs.StoreLaws as store
 use Rattle.store.specs.declared.Store.{Store}
 use Rattle.answers.specs.Outcome.{outcomeOf}
 use Rattle.answers.specs.declared.Outcome.the-variants.{Done}
-use Rattle.scores.specs.Scores.{wholeOf, scoreAt, scoresBy, times, Amounts, scoredAs, scoredOf, workOf}
-
--- ---- the bytes, level by level
-
-module _ (files : List FileRecord) (counts : List ℕ) where
-  -- one more level's bytes are laid down
-  pub bytes-turn : (out : List ℕ) (l from : ℕ) → l < length counts → l < length out
-      → put (set out l (total (run from (from + getD counts l 0) files))) (l + 1) (map total (levelsOf (drop (from + getD counts l 0) files) (drop (l + 1) counts)))
-      ≡ put out l (map total (levelsOf (drop from files) (drop l counts)))
-  bytes-turn out l from h k =
-      let to = from + getD counts l 0 in
-      put-cons out l (total (run from to files)) (map total (levelsOf (drop to files) (drop (l + 1) counts))) k
-      ∙ ap (λ (ls : List (List File)). put out l (map total ls)) (sym (levels-turn files counts l from h))
-
-  -- no level is left
-  pub bytes-over : (out : List ℕ) (l from : ℕ) → length counts ≤ l → put out l (map total (levelsOf (drop from files) (drop l counts))) ≡ out
-  bytes-over out l from h = ap (λ (ls : List (List File)). put out l (map total ls)) (levels-over files counts l from h) ∙ put-nil out l
-
-  -- all are laid down over as many places
-  pub bytes-start : (d : List ℕ) → length d ≡ length counts → put d 0 (map total (levelsOf files counts)) ≡ map total (levelsOf files counts)
-  bytes-start d e = put-whole d (map total (levelsOf files counts)) (length-map (levelsOf files counts) total ∙ levels-number files counts ∙ sym e)
-
-  -- the files of a run of places that hold files are good
-  run-good : (from to : ℕ) → sum counts ≤ length files → to ≤ sum counts → wellLevels files counts ≡ true → all (goodFile full) (run from to files) ≡ true
-  unfolding run
-  run-good from to q h w =
-      let n = sum counts in
-      let fs = map fileOf (take n files) in
-      let good : all (goodFile full) fs ≡ true = rw (files-of-levels files counts q) at (levels.well-says files counts .0 w .good .fits .good) in
-      let e : slice from to fs ≡ map fileOf (slice from to files) = slice-map fileOf from to (take n files) ∙ ap (λ (l : List FileRecord). map fileOf (drop from l)) (take-take to n files h) in
-      sym (ap (all (goodFile full)) e) ∙ all-drop (goodFile full) from (take to fs) (all-take (goodFile full) to fs good)
-
-  -- so their bytes are no more than 256 times 2^40
-  pub run-bytes : (from to : ℕ) → length files ≡ 256 → to ≤ sum counts → wellLevels files counts ≡ true → total (run from to files) ≤ 256 * 2 ^ 40
-  run-bytes from to q h w =
-      let room = levels.well-says files counts .0 w .sound .room in
-      total-bound from to files q (omega arith) (run-good from to (omega arith) h w)
+use Rattle.scores.specs.Scores.{wholeOf, scoreAt, scoresBy, times, Amounts, scoredAs, amountsBy, scoredBy, scoredOf, workOf}
 
 -- ---- fractions by one whole
 
@@ -117,7 +73,33 @@ top-fits amounts (suc (suc (suc (suc zero)))) b h = omega (arith, b .bytes 4)
 top-fits amounts (suc (suc (suc (suc (suc zero))))) b h = omega (arith, b .bytes 5)
 top-fits amounts (suc (suc (suc (suc (suc (suc l)))))) b h = absurd (omega arith)
 
+-- a level with a score has a limit below 2^53
+whole-small : (l : ℕ) → l < 6 → wholeOf l < 2 ^ 53
+unfolding wholeOf byteLimit
+whole-small zero h = omega arith
+whole-small (suc zero) h = omega arith
+whole-small (suc (suc zero)) h = omega arith
+whole-small (suc (suc (suc zero))) h = omega arith
+whole-small (suc (suc (suc (suc zero)))) h = omega arith
+whole-small (suc (suc (suc (suc (suc zero))))) h = omega arith
+whole-small (suc (suc (suc (suc (suc (suc l)))))) h = absurd (omega arith)
+
+-- so both numbers of its score are, where the amounts are within their bounds
+pub amounts-lossless : (amounts : List ℕ) (l : ℕ) → Amounts amounts → l < 6 → Lossless (scoreAt l (getD amounts l 0))
+unfolding scoreAt
+amounts-lossless amounts l b h = record { part = omega (arith, b .bytes l); whole = whole-small l h }
+
 -- ---- the best level, level by level up to n
+
+-- the best of so many levels from one on, or the best before them
+pub best-below : (sc : ℕ → Score) (n best l : ℕ) → best < l → bestFrom sc best l n < l + n
+unfolding bestFrom
+best-below sc zero best l h = omega arith
+best-below sc (suc n) best l h = omega (arith, best-below sc n (cond (lower (sc best) (sc l)) l best) (suc l) (go (lower (sc best) (sc l))))
+  where
+    go : (t : Bool) → cond t l best < suc l
+    go true = omega arith
+    go false = omega arith
 
 module _ (sc : ℕ → Score) (n best l : ℕ) where
   -- the level has a greater score than the best so far
@@ -168,14 +150,10 @@ module _ (t : State) (w : WF full t) where
   level-below = level-is full t (omega arith) .among
 
   -- and its score is the one that is asked for
-  pub amounts-scored : (l : ℕ) → l ≡ levelToCompact full t → scoredAs l (scoreAt l (getD (amountsOf t) l 0)) ≡ scoredOf t
-  unfolding scoredOf scoresBy
-  amounts-scored l e = ap (scoredAs l) (amounts-score l) ∙ ap (λ (k : ℕ). scoredAs k (score t k)) e
-
-  -- both numbers of a level's score are below 2^53
-  pub amounts-lossless : (l : ℕ) → l < 6 → Lossless (scoreAt l (getD (amountsOf t) l 0))
-  unfolding full scoresBy
-  amounts-lossless l h = subst Lossless (sym (amounts-score l)) (lossless full t (omega arith) (omega arith) w l (omega arith))
+  pub amounts-scored : scoredBy (amountsOf t) ≡ scoredOf t
+  unfolding scoredBy scoredOf
+  amounts-scored =
+      ap (λ (l : ℕ). scoredAs l (scoresBy (amountsOf t) l)) amounts-best ∙ ap (scoredAs (levelToCompact full t)) (amounts-score (levelToCompact full t))
 
   -- the amounts are within their bounds
   part-is : (l : ℕ) → getD (amountsOf t) l 0 ≡ score t l .part
@@ -201,13 +179,25 @@ module _ (t : State) (w : WF full t) where
       bound zero = rw (part-is 0) (omega (arith, few 0))
       bound (suc l) = rw (part-is (suc l)) (level-bytes (suc l))
 
--- ---- the amounts of a store
+-- ---- a look at a well-formed store
 
--- the bytes of its levels, with the count of level 0 first, are the amounts of its state
-pub store-amounts : (s : Store) (bytes : List ℕ) → wellStore s ≡ true → length (s .files) ≡ 256 → bytes ≡ map total (levelsOf (s .files) (s .counts))
-    → set bytes 0 (getD (s .counts) 0 0) ≡ amountsOf (stateOf s)
-unfolding stateOf
-store-amounts s bytes h q e = cc (e, store.level-count s h q 0)
+module _ (s : Store) (h : wellStore s ≡ true) (q : length (s .files) ≡ 256) where
+  -- the amounts that it gives are those of the state
+  look-state : amountsBy (lookOf s .bytes) (s .counts) ≡ amountsOf (stateOf s)
+  unfolding amountsBy stateOf
+  look-state = cc (store.look-bytes s h q .1, store.level-count s h q 0)
+
+  -- the state is well-formed
+  formed : WF full (stateOf s)
+  formed = formed-says full (stateOf s) .0 (store.well-says s .0 h .formed)
+
+  -- so they are within their bounds
+  pub look-amounts : Amounts (amountsBy (lookOf s .bytes) (s .counts))
+  look-amounts = subst Amounts (sym look-state) (amounts-bounded (stateOf s) formed)
+
+  -- and the level to compact by them is that of the state, with its score
+  pub look-scored : scoredBy (amountsBy (lookOf s .bytes) (s .counts)) ≡ scoredOf (stateOf s)
+  look-scored = ap scoredBy look-state ∙ amounts-scored (stateOf s) formed
 
 -- ---- the answer
 

@@ -1,17 +1,13 @@
 // When to compact: the level with the greatest score, its score, and whether work is due.
 ghost use mathlib.Core.Path.{_≡_};
-ghost use mathlib.Core.Bool.{true};
-ghost use mathlib.Core.List.{map};
 ghost use Prim.Native.Nat.{_<_};
-ghost use Rattle.model.specs.File.{full, total};
+ghost use Rattle.model.specs.File.{full};
 ghost use Rattle.model.specs.ScoreLaws.{bestFrom, Lossless};
 ghost use Rattle.model.specs.Calls as calls;
-ghost use Rattle.levels.specs.Levels.{levelsOf, wellLevels};
-ghost use Rattle.store.specs.Store.{stateOf, wellStore, onStore};
-ghost use Rattle.scores.specs.Scores.{wholeOf, scoreAt, scoresBy, scoredAs, scoredOf, unscored, workOf, Amounts};
+ghost use Rattle.store.specs.Store.{onStore};
+ghost use Rattle.scores.specs.Scores.{wholeOf, scoreAt, scoresBy, scoredAs, scoredBy, amountsBy, unscored, workOf, Amounts};
 use answers::Outcome;
 use answers::Refusal;
-use records::FileRecord;
 use records::Level;
 use store::Store;
 
@@ -35,27 +31,6 @@ const FILE_LIMIT: u64 = 4;
 
 // How often the limit of each level goes into 104857600000: scores compare as their amounts times these.
 const TIMES: [u64; 6] = [26214400000, 10000, 1000, 100, 10, 1];
-
-// The bytes of each level. For callers of this repository, who know the levels to be well-formed.
-pub fn level_bytes(files: [FileRecord; 256], counts: [usize; 7]) -> [u64; 7]
-    requires { ⌜ wellLevels files counts ≡ true ⌝ }
-    ensures { λ r. ⌜ r ≡ map total (levelsOf files counts) ⌝ }
-{
-    let mut out = [0u64; 7];
-    let mut i: usize = 0;
-    let mut level: usize = 0;
-    while level < Level::COUNT {
-        let to = i + counts[level];
-        let mut bytes: u64 = 0;
-        while i < to {
-            bytes += files[i].size;
-            i += 1;
-        }
-        out[level] = bytes;
-        level += 1;
-    }
-    out
-}
 
 // The limit of a level that has a score: files at level 0, bytes deeper.
 fn limit_of(level: usize) -> u64
@@ -101,14 +76,12 @@ fn scored_at(level: usize, amount: u64) -> Scored
     }
 }
 
-// The level to compact and its score. For callers of this repository, who have tested the store.
-pub fn finalize(s: Store) -> Scored
-    requires { ⌜ wellStore s ≡ true ⌝ }
-    ensures { λ r. ⌜ r ≡ scoredOf (stateOf s) ⌝ }
+// The level to compact and its score, by the bytes and the counts of all levels. For callers of this repository, whose levels are well-formed.
+pub fn finalize(bytes: [u64; 7], counts: [usize; 7]) -> Scored
+    requires { ⌜ Amounts (amountsBy bytes counts) ⌝ }
+    ensures { λ r. ⌜ r ≡ scoredBy (amountsBy bytes counts) ⌝ }
 {
-    let files = s.files;
-    let counts = s.counts;
-    let mut amounts = level_bytes(files, counts);
+    let mut amounts = bytes;
     amounts[0] = counts[0] as u64;
     let level = best_level(amounts);
     scored_at(level, amounts[level])
@@ -131,7 +104,8 @@ fn no_score() -> Scored
 pub fn needs_compaction(s: Store) -> Work
     ensures { λ r. ⌜ r ≡ workOf (onStore s (calls.needsCompaction full)) ⌝ }
 {
-    if !store::is_well_formed(s) {
+    let look = store::look(s);
+    if !look.well {
         let outcome = Outcome::Refused(Refusal::FORM);
         let scored = no_score();
         return Work {
@@ -140,7 +114,9 @@ pub fn needs_compaction(s: Store) -> Work
         };
     }
     let outcome = Outcome::Done;
-    let scored = finalize(s);
+    let bytes = look.bytes;
+    let counts = s.counts;
+    let scored = finalize(bytes, counts);
     Work {
         outcome: outcome,
         scored: scored,

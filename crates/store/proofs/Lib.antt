@@ -1,1 +1,4 @@
+pub mod Element
+pub mod LendStore
 pub mod Shape
+pub mod View

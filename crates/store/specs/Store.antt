@@ -11,9 +11,10 @@ use Rattle.model.specs.File.{State, full, wellFormed}
 use Rattle.answers.specs.Outcome.{outcomeOf}
 use Rattle.keys.specs.Key.{keyOf, keyRecord, soundKey}
 use Rattle.counters.specs.Counters.{countersOf, countersRecord}
-use Rattle.levels.specs.Levels.{levelsOf, laidOut, countsOf, soundLevels}
+use Rattle.levels.specs.Levels.{levelsOf, laidOut, countsOf, soundLevels, surveyOf}
 use Rattle.store.specs.declared.Pointer.{Pointer}
 use Rattle.store.specs.declared.Store.{Store}
+use Rattle.store.specs.declared.Looked.{Looked}
 use Rattle.store.specs.declared.Stored.{Stored}
 
 -- the pointer that a record stands for, and the one record that is kept of it
@@ -53,6 +54,10 @@ soundStore s = soundLevels (s .files) (s .counts) && all soundPointer (s .pointe
 -- a well-formed store
 unfoldable pub wellStore : Store → Bool
 wellStore s = soundStore s && wellFormed full (stateOf s)
+
+-- what one look at a store tells
+unfoldable pub lookOf : Store → Looked
+lookOf s = record { bytes = surveyOf (s .files) (s .counts) .bytes; well = wellStore s }
 
 -- a call on a store: 14 where its records are not sound, else what the call answers for the state
 unfoldable pub onStore : {A : Type 0} → Store → (State → Answer A) → Answer A

@@ -15,7 +15,7 @@ use Rattle.lemmas.specs.Maps.{all-both}
 use Rattle.lemmas.specs.Each.{Each}
 use Rattle.model.specs.Answer.{Answer, refused}
 use Rattle.model.specs.Key.{goodKey}
-use Rattle.model.specs.File.{State, full, level, wellFormed, goodFiles, goodPointer, goodCounters}
+use Rattle.model.specs.File.{State, full, level, total, wellFormed, goodFiles, goodPointer, goodCounters}
 use Rattle.model.specs.Formed.{formed-says}
 use Rattle.keys.specs.Key.{keyOf, keyRecord, soundKey}
 use Rattle.keys.specs.KeyLaws as key
@@ -26,7 +26,7 @@ use Rattle.levels.specs.Levels.{levelsOf, laidOut, countsOf, soundLevels, wellL
 use Rattle.levels.specs.LevelsLaws as levels
 use Rattle.store.specs.declared.Pointer.{Pointer}
 use Rattle.store.specs.declared.Store.{Store}
-use Rattle.store.specs.Store.{pointerOf, pointerRecord, soundPointer, wellPointer, stateOf, storeOf, soundStore, wellStore, onStore}
+use Rattle.store.specs.Store.{pointerOf, pointerRecord, soundPointer, wellPointer, stateOf, storeOf, soundStore, wellStore, lookOf, onStore}
 
 -- ---- pointers
 
@@ -268,6 +268,11 @@ level-count s h q l =
     let room = levels.well-says (s .files) (s .counts) .0 (well-levels s h) .sound .room in
     sym (ap (λ (ns : List ℕ). getD ns l 0) (levels.counts-of-levels (s .files) (s .counts) (omega arith)))
     ∙ List·getD-map length (levelsOf (s .files) (s .counts)) l []
+
+-- a look at a well-formed store tells that it is, and the bytes of its levels
+pub look-bytes : (s : Store) → wellStore s ≡ true → length (s .files) ≡ 256 → (lookOf s .well ≡ true) × (lookOf s .bytes ≡ map total (levelsOf (s .files) (s .counts)))
+unfolding lookOf
+look-bytes s h q = (h, levels.survey-bytes (s .files) (s .counts) q (well-levels s h))
 
 -- ---- calls on a store
 

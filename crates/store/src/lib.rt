@@ -1,13 +1,20 @@
 // The store by value: files level by level, pointers and counters; whether it is well-formed; the store as it was, with a refusal.
 ghost use mathlib.Core.Path.{_≡_};
+ghost use mathlib.Core.Bool.{_&&_};
+ghost use Prim.Native.Nat.{_≤_, _<_};
+ghost use lib.ListN.{getD};
 ghost use Rattle.lemmas.specs.Lists.{all};
-ghost use Rattle.model.specs.File.{full, fresh};
-ghost use Rattle.store.specs.Store.{storeOf, wellPointer, wellStore, refusedBy};
+ghost use Rattle.model.specs.File.{full, fresh, goodCounters};
+ghost use Rattle.counters.specs.Counters.{countersOf};
+ghost use Rattle.levels.specs.Levels.{tellsWell};
+ghost use Rattle.records.specs.RecordLaws.{past};
+ghost use Rattle.store.specs.Store.{storeOf, wellPointer, wellStore, lookOf, refusedBy};
 use answers::Outcome;
 use counters::Counters;
 use keys::FileNumber;
 use keys::Key;
 use keys::SequenceNumber;
+use levels::Surveyed;
 use records::FileRecord;
 use records::Level;
 
@@ -23,6 +30,12 @@ pub struct Store {
     pub counts: [usize; 7],
     pub pointers: [Pointer; 7],
     pub counters: Counters,
+}
+
+// What one look at a store tells: the bytes of each level, zeros where its levels are not arranged as document 01 has them, and whether it is well-formed.
+pub struct Looked {
+    pub bytes: [u64; 7],
+    pub well: bool,
 }
 
 // The answer of a call that changes a store: on a refusal the store as it was given. The store stands first, so that it is copied as one piece.
@@ -79,21 +92,54 @@ fn are_well_formed_pointers(pointers: [Pointer; 7]) -> bool
     true
 }
 
+// Whether a store of these counters, these pointers and levels of which a survey tells this is well-formed. For callers of this repository, whose survey is one of levels.
+fn passes(five: Counters, pointers: [Pointer; 7], v: Surveyed) -> bool
+    requires { ⌜ v .total ≤ 256 ⌝ }
+    ensures { λ r. ⌜ r ≡ goodCounters (countersOf five) && all wellPointer pointers && tellsWell v ⌝ }
+{
+    if !counters::are_bounded(five) {
+        return false;
+    }
+    if !are_well_formed_pointers(pointers) {
+        return false;
+    }
+    levels::are_well_formed(v)
+}
+
 // Whether a store is well-formed.
 pub fn is_well_formed(s: Store) -> bool
     ensures { λ r. ⌜ r ≡ wellStore s ⌝ }
 {
-    let five = s.counters;
-    if !counters::are_bounded(five) {
-        return false;
-    }
-    let pointers = s.pointers;
-    if !are_well_formed_pointers(pointers) {
-        return false;
-    }
     let files = s.files;
     let counts = s.counts;
-    levels::are_well_formed(levels::survey(files, counts))
+    let v = levels::survey(files, counts);
+    let five = s.counters;
+    let pointers = s.pointers;
+    passes(five, pointers, v)
+}
+
+// One look at a store: whether it is well-formed, and the bytes of each level.
+pub fn look(s: Store) -> Looked
+    ensures { λ r. ⌜ r ≡ lookOf s ⌝ }
+{
+    let files = s.files;
+    let counts = s.counts;
+    let v = levels::survey(files, counts);
+    let five = s.counters;
+    let pointers = s.pointers;
+    let bytes = v.bytes;
+    Looked {
+        bytes: bytes,
+        well: passes(five, pointers, v),
+    }
+}
+
+// The record at a place of a lent store. For callers of this repository, whose place is within the room.
+pub fn file_at(s: &Store, i: usize) -> FileRecord
+    requires { ⌜ i < 256 ⌝ }
+    ensures { λ r. ⌜ r ≡ getD (now (s .entry) .files) i past ⌝ }
+{
+    s.files[i]
 }
 
 // The store as it was, with the number of the refusal.

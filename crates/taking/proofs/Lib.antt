@@ -1,4 +1,5 @@
--- What the proofs of several functions use.
-mod Lent
-mod Passed
-mod Turning
+pub mod Handing
+pub mod Lent
+pub mod Once
+pub mod Passed
+pub mod Reading

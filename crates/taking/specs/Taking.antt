@@ -1,42 +1,13 @@
 -- What a pick on a lent store answers, and the store that it leaves there. Assumes nothing.
-use Prim.Native.Nat.{ℕ, zero, suc, _+_}
 use mathlib.Core.Path.{_≡_}
-use mathlib.Core.List.{List}
 use Rattle.model.specs.Answer.{Answer}
-use Rattle.model.specs.File.{State, full}
 use Rattle.model.specs.Pick as model
-use Rattle.answers.specs.declared.Outcome.{Outcome}
-use Rattle.answers.specs.declared.Outcome.the-variants.{Done, Refused}
 use Rattle.store.specs.declared.Store.{Store}
-use Rattle.store.specs.Store.{onStore}
 use Rattle.picked.specs.Picked.{pickOf}
-use Rattle.picks.specs.declared.Taken.{Taken}
-use Rattle.picks.specs.Made.{takenOf}
+use Rattle.deciding.specs.declared.Taken.{Taken}
+use Rattle.deciding.specs.Plans.{takenOf}
 
 -- the answer is that of the model, and the store is the one that it leaves: on a refusal the one that was lent
 pub record Leaves (s : Store) (a : Answer model.Pick) (r : Taken) (t : Store) : Type 0 where
   pub answer : r ≡ takenOf (pickOf s a)
   pub store : t ≡ pickOf s a .store
-
--- ---- many picks, one after another
--- one where a call was not refused
-unfoldable pub doneOne : Outcome → ℕ
-doneOne Done = 1
-doneOne (Refused n) = 0
-
--- of an answer
-unfoldable pub doneBy : Taken → ℕ
-doneBy t = doneOne (t .outcome)
-
--- how many of so many picks are not refused, each on the store that the one before has left
-unfoldable pub manyDone : (State → Answer model.Pick) → ℕ → Store → ℕ
-manyDone call zero s = 0
-manyDone call (suc n) s = doneBy (takenOf (pickOf s (onStore s call))) + manyDone call n (pickOf s (onStore s call) .store)
-
--- of size picks
-unfoldable pub sizesDone : ℕ → Store → ℕ → ℕ
-sizesDone n s maximum = manyDone (λ t. model.sizePick full t maximum) n s
-
--- of manual picks
-unfoldable pub rangesDone : ℕ → Store → ℕ → ℕ → List ℕ → List ℕ → ℕ
-rangesDone n s maximum level start stop = manyDone (λ t. model.manualPick full t maximum level start stop) n s

@@ -1,97 +1,66 @@
-// Picks on a store that the caller lends: the level's pointer is set in place, and a refused pick leaves the store as it was.
-ghost use mathlib.Core.Path.{_≡_};
-ghost use Prim.Native.Nat.{_+_, _<_, _≤_};
+// Picks on a store that the caller lends: the plan is followed, and the level's pointer is set in place; a refused pick leaves the store as it was.
+ghost use Prim.Native.Nat.{_<_};
 ghost use Rattle.model.specs.File.{full};
 ghost use Rattle.model.specs.Pick as model;
 ghost use Rattle.keys.specs.Key.{keyOf};
 ghost use Rattle.store.specs.Store.{onStore};
-ghost use Rattle.taking.specs.Taking.{Leaves, doneBy, sizesDone, rangesDone};
-use answers::Outcome;
+ghost use Rattle.choosing.specs.Search.{Ready};
+ghost use Rattle.deciding.specs.Plans.{picksFrom, answerOf, Feasible};
+ghost use Rattle.taking.specs.Taking.{Leaves};
+use completing::Choice;
+use deciding::Plan;
+use deciding::Taken;
 use keys::Key;
-use picks::Taken;
+use picked::Picked;
 use store::Store;
+
+// What a plan that is not refused makes of a lent store: its searches are made, the level's pointer is set. For callers of this repository, whose plan is one for the store.
+fn follow(s: &mut Store, plan: Plan) -> Taken
+    requires { ⌜ Ready (now s) (plan .asked) (plan .search) 5 × (plan .asked .level < 6) ⌝ }
+    ensures { λ r. ⌜ Leaves (now (s .entry)) (picksFrom (now (s .entry)) (plan .cause) (plan .asked) (plan .search)) r (now (s .exit)) ⌝ }
+{
+    let c = choosing::choose(&*s, plan.asked, plan.search, Choice::SEARCHES);
+    let e = deciding::ended(plan.cause, c);
+    let files = choosing::laid(&*s, e.choice);
+    s.pointers = deciding::pointed(s.pointers, e.choice);
+    let picked = Picked {
+        level: e.choice.level,
+        cause: e.cause,
+        maximum: e.choice.maximum,
+        files: files,
+        first: e.choice.first.count,
+        second: e.choice.second.count,
+        grand: e.choice.grand.count,
+    };
+    Taken {
+        picked: picked,
+        outcome: e.outcome,
+    }
+}
+
+// What a plan makes of a lent store: nothing where it is refused. For callers of this repository, whose plan is one for the store.
+fn take(s: &mut Store, plan: Plan) -> Taken
+    requires { ⌜ Feasible (now s) plan ⌝ }
+    ensures { λ r. ⌜ Leaves (now (s .entry)) (answerOf (now (s .entry)) plan) r (now (s .exit)) ⌝ }
+{
+    if deciding::goes_on(plan) {
+        return follow(s, plan);
+    }
+    deciding::none_taken(plan)
+}
 
 // A size pick at the level with the greatest score; refused with 10 where no work is due.
 pub fn pick_compaction(s: &mut Store, maximum: u64) -> Taken
     ensures { λ r. ⌜ Leaves (now (s .entry)) (onStore (now (s .entry)) (λ t. model.sizePick full t maximum)) r (now (s .exit)) ⌝ }
 {
-    let m = picks::size_made(*s, maximum);
-    s.pointers = m.pointers;
-    m.taken
+    let plan = starting::size_plan(&*s, maximum);
+    take(s, plan)
 }
 
 // A manual pick of the files of a level that overlap the range of two internal keys.
 pub fn compact_range(s: &mut Store, maximum: u64, level: usize, start: Key, stop: Key) -> Taken
     ensures { λ r. ⌜ Leaves (now (s .entry)) (onStore (now (s .entry)) (λ t. model.manualPick full t maximum level (keyOf start) (keyOf stop))) r (now (s .exit)) ⌝ }
 {
-    let m = picks::manual_made(*s, maximum, level, start, stop);
-    s.pointers = m.pointers;
-    m.taken
-}
-
-// How many more were done: one, where a pick was not refused.
-fn more_done(done: u64, t: Taken) -> u64
-    requires { ⌜ done < 4294967296 ⌝ }
-    ensures { λ r. ⌜ r ≡ done + doneBy t ⌝ }
-{
-    let outcome = t.outcome;
-    match outcome {
-        Outcome::Done => done + 1,
-        Outcome::Refused(n) => done,
-    }
-}
-
-// So many size picks, each on the store that the one before has left; how many were not refused. For programs of this repository.
-fn pick_in_turn(s: &mut Store, maximum: u64, times: u64) -> u64
-    requires { ⌜ times ≤ 4294967296 ⌝ }
-    ensures { λ r. ⌜ r ≡ sizesDone times (now (s .entry)) maximum ⌝ }
-{
-    let mut done: u64 = 0;
-    let mut k: u64 = 0;
-    while k < times {
-        let t = pick_compaction(s, maximum);
-        done = more_done(done, t);
-        k += 1;
-    }
-    done
-}
-
-// The same on a store by value, which is lent once.
-pub fn pick_many(s: Store, maximum: u64, times: u64) -> u64
-    requires { ⌜ times ≤ 4294967296 ⌝ }
-    ensures { λ r. ⌜ r ≡ sizesDone times s maximum ⌝ }
-{
-    let mut t = s;
-    pick_in_turn(&mut t, maximum, times)
-}
-
-// So many manual picks, each on the store that the one before has left; how many were not refused. For programs of this repository.
-fn compact_in_turn(
-    s: &mut Store,
-    maximum: u64,
-    level: usize,
-    start: Key,
-    stop: Key,
-    times: u64,
-) -> u64
-    requires { ⌜ times ≤ 4294967296 ⌝ }
-    ensures { λ r. ⌜ r ≡ rangesDone times (now (s .entry)) maximum level (keyOf start) (keyOf stop) ⌝ }
-{
-    let mut done: u64 = 0;
-    let mut k: u64 = 0;
-    while k < times {
-        let t = compact_range(s, maximum, level, start, stop);
-        done = more_done(done, t);
-        k += 1;
-    }
-    done
-}
-
-// The same on a store by value, which is lent once.
-pub fn compact_many(s: Store, maximum: u64, level: usize, start: Key, stop: Key, times: u64) -> u64
-    requires { ⌜ times ≤ 4294967296 ⌝ }
-    ensures { λ r. ⌜ r ≡ rangesDone times s maximum level (keyOf start) (keyOf stop) ⌝ }
-{
-    let mut t = s;
-    compact_in_turn(&mut t, maximum, level, start, stop, times)
+    let plan = starting::range_plan(&*s, maximum, level, start, stop);
+    take(s, plan)
 }

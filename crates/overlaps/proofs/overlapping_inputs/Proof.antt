@@ -97,18 +97,19 @@ between-requires c κs = search needs
 asking-requires : tie.Need-asking-requires
 asking-requires c κs = search needs
 
-choose-requires : tie.Need-choose-requires
+chosen-of-requires : tie.Need-chosen-of-requires
 unfolding begun
-choose-requires c κs =
+chosen-of-requires c κs =
     let b = c .before in
     let u = b .before .before .before .before .before in
     let e = u .before in
     let a = e .before .before .args in
-    rw (c .asking .ensures) (well e, under u, omega arith, omega arith, omega arith, stands-begun (a .s) (a .level) 0 18446744073709551615 (b .between .result))
+    rw (c .asking .ensures)
+    record { well = well e; level = under u; maximum = omega arith; order = omega arith; last = omega arith; stands = stands-begun (a .s) (a .level) 0 18446744073709551615 (b .between .result) }
 
 -- the first inputs are the level's files that overlap
-chosen : (c : tie.After-choose) → let a = c .before .before .before .before .before .before .before .before .before .before .args in
-    Stands (a .s) (overlapping (a .level) (level (stateOf (a .s)) (a .level)) (between (keyOf (a .start)) (keyOf (a .stop)))) 1 (c .choose .result .choice)
+chosen : (c : tie.After-chosen-of) → let a = c .before .before .before .before .before .before .before .before .before .before .args in
+    Stands (a .s) (overlapping (a .level) (level (stateOf (a .s)) (a .level)) (between (keyOf (a .start)) (keyOf (a .stop)))) 1 (c .chosen-of .result .choice)
 chosen c =
     let d = c .before in
     let b = d .before in
@@ -116,7 +117,7 @@ chosen c =
     let e = u .before in
     let a = e .before .before .args in
     let all = asked-all (a .s) (a .level) 0 (well e) (under u) (b .between .result) (between (keyOf (a .start)) (keyOf (a .stop))) (ap spanOf (b .between .ensures) ∙ span-between (a .start) (a .stop)) in
-    subst (λ (fs : List File). Stands (a .s) fs 1 (c .choose .result .choice)) (ap (firsts (a .s) 0) (d .asking .ensures) ∙ all) (c .choose .ensures .0)
+    subst (λ (fs : List File). Stands (a .s) fs 1 (c .chosen-of .result .choice)) (ap (firsts (a .s) 0) (d .asking .ensures) ∙ all) (c .chosen-of .ensures .0 .stands)
 
 returns-5 : tie.Need-returns-5
 unfolding listed outcomeOf
@@ -129,8 +130,8 @@ returns-5 c =
     let a = start .args in
     let keys = both (goodKey (full .longest) (keyOf (a .start))) (goodKey (full .longest) (keyOf (a .stop))) (start-good (f .before .before)) (sym (f .before .is-good2 .ensures) ∙ not-false (f .before .is-good2 .result) (f .if4 .left)) in
     let fs = overlapping (a .level) (level (stateOf (a .s)) (a .level)) (between (keyOf (a .start)) (keyOf (a .stop))) in
-    let r = o .choose .result in
-    let files = one-listed (a .s) (well e) (store-shape.shape (a .s) _ (start .good .0) .files) fs (r .choice) (chosen o) (record { files = r .files; count = r .choice .first .count }) (o .choose .ensures .1) refl in
+    let r = o .chosen-of .result in
+    let files = one-listed (a .s) (well e) (store-shape.shape (a .s) _ (start .good .0) .files) fs (r .choice) (chosen o) (record { files = r .files; count = r .choice .first .count }) (o .chosen-of .ensures .1) refl in
     ap (λ (l : FileList). record { outcome = Done; list = l }) files
     ∙ ap listed (sym (inputs-done (a .s) (a .level) (keyOf (a .start)) (keyOf (a .stop)) (well e) (under u) keys))
 
@@ -151,5 +152,5 @@ overlapping-inputs-spec =
     returns-4
     between-requires
     asking-requires
-    choose-requires
+    chosen-of-requires
     returns-5)
