@@ -3,12 +3,13 @@
 
   compare/fixed.py RUST [COMMANDS]
 
-The cases of compare/cases.txt, then scripts of gen.py, at least COMMANDS commands in all (3000 if not given). Each answer is the Rust's; where document 01
+The cases of compare/cases.txt and stores.py, then scripts of gen.py, at least COMMANDS commands in all (3420 if not given). Each answer is the Rust's; where document 01
 differs the answer is document 01's, and a comment before the command says why. Nothing of the shell's own answers goes in."""
 import pathlib
 import sys
 
 from gen import Gen, Rust
+from stores import rows as long_rows
 
 HERE = pathlib.Path(__file__).resolve().parent
 SHELL = HERE.parent / 'crates' / 'shell'
@@ -33,8 +34,8 @@ def cases(rust):
 
 def main():
     rust = Rust(sys.argv[1])
-    wanted = int(sys.argv[2]) if len(sys.argv) > 2 else 3000
-    rows = list(cases(rust))
+    wanted = int(sys.argv[2]) if len(sys.argv) > 2 else 3420
+    rows = list(cases(rust)) + list(long_rows())
     seed = 1000001
     while len(rows) < wanted:
         rows += Gen(seed, rust, 60).script()

@@ -1,6 +1,6 @@
-// Answers by number: the names of document 01's refusals, and the answer of a call that gives no value of its own.
+// Answers by number: the names of document 01's refusals, and the answers of calls that return nothing else.
 
-// The number of each refusal, as document 01's table has it.
+// The numbers of the refusals in document 01's table.
 pub struct Refusal {}
 
 impl Refusal {
@@ -24,30 +24,30 @@ impl Refusal {
     pub const COUNTER: u8 = 9;
     // Nothing to compact.
     pub const NOTHING: u8 = 10;
-    // The last level to be compacted.
+    // The last level cannot be compacted.
     pub const LAST_LEVEL: u8 = 11;
     // A base-level key before the one asked last.
     pub const BACKWARDS: u8 = 12;
     // Lent output shorter than the answer.
     pub const OUTPUT: u8 = 13;
-    // Something lent that is not well-formed.
+    // An argument that is not well-formed.
     pub const FORM: u8 = 14;
 }
 
-// The answer that stands beside what a call leaves: it was done, or refused by a number.
+// The outcome of a call: done, or refused with a number.
 pub enum Outcome {
     Done,
     Refused(u8),
 }
 
-// The answer of a question: yes, no, or refused by a number.
-pub enum Told {
+// The answer of a question: yes, no, or refused with a number.
+pub enum YesNo {
     Yes,
     No,
     Refused(u8),
 }
 
-// The answer of a call that writes into lent output: how many places it filled, or refused by a number.
+// The answer of a call that writes into lent output: how many places it filled, or refused with a number.
 pub enum Counted {
     Filled(usize),
     Refused(u8),

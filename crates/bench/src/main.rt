@@ -3,23 +3,24 @@
 ghost use mathlib.Core.Path.{_≡_};
 ghost use mathlib.Core.Bool.{true};
 ghost use Prim.Native.Nat.{_<_, _≤_};
-ghost use Rattle.lists.specs.List.{wellList};
-ghost use Rattle.picked.specs.Picked.{wellPicked};
+ghost use Rattle.level_list.specs.List.{wellList};
+ghost use Rattle.pick_answer.specs.Picked.{wellPicked};
 ghost use Rattle.store.specs.Store.{wellStore};
 use answers::Counted;
 use answers::Outcome;
-use cutter::Cutter;
-use edits::Addition;
-use edits::Deletion;
-use edits::Edit;
-use finding::Round;
+use bench_loops::Round;
+use compact_cutter::Cutter;
+use edit::Addition;
+use edit::Deletion;
+use edit::Edit;
 use keys::FileNumber;
 use keys::Key;
-use lists::FileList;
-use picked::Picked;
+use level_list::FileList;
+use pick_answer::Picked;
+use records::Version;
+use snapshot_write::Written;
 use store::Store;
 use store::Stored;
-use writing::Written;
 
 // A size of files by which no work is due.
 const SMALL: u64 = 1000;
@@ -183,7 +184,7 @@ fn filled(files: u64, size: u64) -> Store {
             }
             k += 1;
         }
-        let r = apply::apply(s, e);
+        let r = edit_apply::apply(s, e);
         s = r.store;
         i += 64;
     }
@@ -216,7 +217,7 @@ fn replaced(s: Store, files: u64, k: u64) -> Stored {
         number: FileNumber(old_number(i, k, width)),
     };
     let new = addition(1000 + k % 1000000000, i, files, SMALL);
-    apply::apply(s, Edit::empty().delete(old).add(new))
+    edit_apply::apply(s, Edit::empty().delete(old).add(new))
 }
 
 // Edits, each of one deletion and one addition.
@@ -253,14 +254,14 @@ fn bench_form(files: u64, repeats: u64) -> u64 {
 // The snapshot of a store, in bytes as many as the longest has.
 fn snapshot(s: Store) -> [u8; 25440] {
     let mut out = [0u8; 25440];
-    writing::write(s, &mut out);
+    snapshot_write::write(s, &mut out);
     out
 }
 
 // How long the snapshot of a store is.
 fn length_of(s: Store) -> usize {
     let mut out = [0u8; 25440];
-    let w = writing::write(s, &mut out);
+    let w = snapshot_write::write(s, &mut out);
     match w {
         Written::Bytes(n) => n,
         Written::Refused(n) => 0,
@@ -284,7 +285,7 @@ fn bench_write(files: u64, repeats: u64) -> u64 {
 // Whether bytes are read as a snapshot.
 fn is_read(bytes: [u8; 25440], length: usize) -> bool {
     let end = length % 25440;
-    let r = reading::read(&bytes[0..end]);
+    let r = snapshot_read::read(&bytes[0..end]);
     let o = r.outcome;
     is_done(o)
 }
@@ -308,13 +309,13 @@ fn bench_read(files: u64, repeats: u64) -> u64 {
 // A size pick on a lent store, so many times, each on the store that the one before has left.
 fn bench_pick(files: u64, repeats: u64) -> u64 {
     let s = filled(files, LARGE);
-    turning::pick_many(s, MAXIMUM, repeats % 1000000000)
+    bench_loops::pick_many(s, MAXIMUM, repeats % 1000000000)
 }
 
 // A manual pick at level 2 of the whole range on a lent store, so many times.
 fn bench_manual(files: u64, repeats: u64) -> u64 {
     let s = filled(files, LARGE);
-    turning::compact_many(
+    bench_loops::compact_many(
         s,
         MAXIMUM,
         2,
@@ -340,7 +341,7 @@ fn bench_overlap(files: u64, repeats: u64) -> u64 {
     let mut done: u64 = 0;
     let mut k: u64 = 0;
     while k < repeats {
-        let l = overlaps::overlapping_inputs(s, 2, cam_key(scattered(k)), cam_key(scattered(k)));
+        let l = ask_overlap::overlapping_inputs(s, 2, cam_key(scattered(k)), cam_key(scattered(k)));
         let o = l.outcome;
         if is_done(o) {
             done = (done + 1) % 1000000000;
@@ -352,7 +353,7 @@ fn bench_overlap(files: u64, repeats: u64) -> u64 {
 
 // The list of level 2.
 fn level_two(s: Store) -> FileList {
-    let l = lists::level_files(s, 2);
+    let l = level_list::level_files(s, 2);
     l.list
 }
 
@@ -368,11 +369,11 @@ fn is_filled(c: Counted) -> bool {
 fn look_up(l: FileList, key: Key) -> bool {
     let mut out = [0u64; 4];
     let n = l.count;
-    if 256 < n {
+    if Version::ROOM < n {
         return false;
     }
     let files = l.files;
-    is_filled(lookups::look_up_of(2, files, n, key, &mut out))
+    is_filled(lend::look_up_of(2, files, n, key, &mut out))
 }
 
 // A lookup in level 2, so many times.
@@ -421,7 +422,7 @@ fn search_round(l: FileList, k: u64, length: u64) -> bool
 {
     let files = l.files;
     let n = l.count;
-    let sum = finding::find_many(files, n, round_of(k, length));
+    let sum = bench_loops::find_many(files, n, round_of(k, length));
     sum <= n % 1000 * 1000
 }
 
@@ -445,7 +446,7 @@ fn search_rounds(l: FileList, repeats: u64) -> u64
 fn bench_search(files: u64, repeats: u64) -> u64 {
     let s = filled(files, SMALL);
     let l = level_two(s);
-    if lists::is_well_formed(2, l) {
+    if level_list::is_well_formed(2, l) {
         return search_rounds(l, repeats);
     }
     0
@@ -454,12 +455,12 @@ fn bench_search(files: u64, repeats: u64) -> u64 {
 // A base-level question, so many times.
 fn bench_base(files: u64, repeats: u64) -> u64 {
     let s = filled(files, SMALL);
-    let mut memory = bases::nothing_asked();
+    let mut memory = compact_base::nothing_asked();
     let mut done: u64 = 0;
     let mut k: u64 = 0;
     while k < repeats {
         let u = keys::user_key(cam_key(rising(k, repeats)));
-        let b = bases::is_base_level_for(s, 1, memory, u);
+        let b = compact_base::is_base_level_for(s, 1, memory, u);
         let o = b.outcome;
         memory = b.memory;
         if is_done(o) {
@@ -473,18 +474,18 @@ fn bench_base(files: u64, repeats: u64) -> u64 {
 // What a manual pick at level 1 of the whole range takes: all files of the store.
 fn picked_of(files: u64) -> Picked {
     let s = filled(files, SMALL);
-    let p = picks::compact_range(s, MAXIMUM, 1, cam_key(0), cam_key(9999));
+    let p = pick::compact_range(s, MAXIMUM, 1, cam_key(0), cam_key(9999));
     p.picked
 }
 
 // A key put to the cutter of a pick, so many times.
 fn bench_cut(files: u64, repeats: u64) -> u64 {
     let c = picked_of(files);
-    let mut memory = cutter::fresh_cutter();
+    let mut memory = compact_cutter::fresh_cutter();
     let mut done: u64 = 0;
     let mut k: u64 = 0;
     while k < repeats {
-        let r = cutter::step(c, memory, cam_key(rising(k, repeats)));
+        let r = compact_cutter::step(c, memory, cam_key(rising(k, repeats)));
         let o = r.outcome;
         memory = r.memory;
         if is_done(o) {
@@ -499,8 +500,8 @@ fn bench_cut(files: u64, repeats: u64) -> u64 {
 fn advanced(c: Picked, memory: Cutter, key: Key) -> Cutter
     requires { ⌜ wellPicked c ≡ true ⌝ }
 {
-    if cutter::is_good_memory(c, memory) {
-        let r = cutter::advance(c, memory, key);
+    if compact_cutter::is_good_memory(c, memory) {
+        let r = compact_cutter::advance(c, memory, key);
         return r.memory;
     }
     memory
@@ -510,7 +511,7 @@ fn advanced(c: Picked, memory: Cutter, key: Key) -> Cutter
 fn steps(c: Picked, repeats: u64) -> u64
     requires { ⌜ wellPicked c ≡ true ⌝ }
 {
-    let mut memory = cutter::fresh_cutter();
+    let mut memory = compact_cutter::fresh_cutter();
     let mut done: u64 = 0;
     let mut k: u64 = 0;
     while k < repeats {
@@ -526,7 +527,7 @@ fn steps(c: Picked, repeats: u64) -> u64
 // A key put to the cutter of a pick that was tested once, so many times.
 fn bench_advance(files: u64, repeats: u64) -> u64 {
     let c = picked_of(files);
-    if picked::is_well_formed(c) {
+    if pick_answer::is_well_formed(c) {
         return steps(c, repeats);
     }
     0
@@ -540,7 +541,7 @@ fn bases(s: Store, repeats: u64) -> u64
     let mut k: u64 = 0;
     while k < repeats {
         let u = keys::user_key(cam_key(rising(k, repeats)));
-        if !bases::is_base_level(s, 1, u) {
+        if !compact_base::is_base_level(s, 1, u) {
             others = (others + 1) % 1000000000;
         }
         k += 1;
@@ -559,7 +560,7 @@ fn bench_bases(files: u64, repeats: u64) -> u64 {
 
 // Whether a word is the one that is named.
 fn is_operation(word: &[u8], n: usize, text: &[u8]) -> bool {
-    words::is_word(word, 0, n, text)
+    script_words::is_word(word, 0, n, text)
 }
 
 // Searches and questions of what was tested once.

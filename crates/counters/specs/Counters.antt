@@ -1,4 +1,4 @@
--- What the five counters by value stand for. Assumes nothing.
+-- The counters that the record stands for. Assumes nothing.
 use Rattle.model.specs.File as model
 use Rattle.counters.specs.declared.Counters.{Counters}
 
@@ -6,7 +6,7 @@ use Rattle.counters.specs.declared.Counters.{Counters}
 unfoldable pub countersOf : Counters → model.Counters
 countersOf c = record { next = c .next .0; manifest = c .manifest .0; last = c .last .0; log = c .log .0; previous = c .previous .0 }
 
--- the one record that holds them
+-- the record of these counters
 unfoldable pub countersRecord : model.Counters → Counters
 countersRecord c = record {
   next = record { 0 = c .next };

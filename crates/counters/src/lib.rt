@@ -19,7 +19,7 @@ impl Counters {
     pub const LARGEST: u64 = 72057594037927935;
 }
 
-// Whether no counter is beyond its bound.
+// Whether no counter is beyond its bound. Internal.
 pub fn are_bounded(c: Counters) -> bool
     ensures { λ r. ⌜ r ≡ goodCounters (countersOf c) ⌝ }
 {

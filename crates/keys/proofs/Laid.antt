@@ -1,4 +1,4 @@
--- One list of bytes laid at the start of another: how it ends, and what it makes of a room of zeros. Assumes nothing.
+-- One list of bytes copied to the start of another: how the loop ends, and the result in a room of zeros. Assumes nothing.
 use Prim.Native.Nat.{ℕ, _-_, _≤_}
 use mathlib.Core.Path.{_≡_, _∙_, ap}
 use mathlib.Core.List.{List, _++_}

@@ -1,5 +1,4 @@
--- What the records of keys hold, for the crates above: one abstract key has one sound record, and no key is longer than its room.
--- Each law of records is proved once, over the room. Assumes nothing.
+-- Laws of key records: one key has one sound record, and no key is longer than its room. Each law is proved once for any room. Assumes nothing.
 use Prim.Native.Nat.{ℕ, zero, suc, _+_, _-_, _≤_, _<_, min}
 use mathlib.Core.Path.{_≡_, refl, sym, _∙_, ap}
 use mathlib.Core.Bool.{Bool, true, false, _&&_, cond}
@@ -17,17 +16,17 @@ use Rattle.lemmas.specs.AreBytes.{bytes-take, bytes-at}
 use Rattle.lemmas.specs.Little.{number, number-drop}
 use Rattle.lemmas.specs.Order.{byFirst}
 use Rattle.model.specs.Key as model
-use Rattle.model.specs.File.{full}
+use Rattle.model.specs.File.{full, keyRoom, longestUser}
 use Rattle.keys.specs.declared.Key.{Key}
 use Rattle.keys.specs.declared.UserKey.{UserKey}
 use Rattle.octets.specs.declared.Order.the-variants.{Less, Equal, Greater}
 use Rattle.octets.specs.Octets.{isZero, standing}
-use Rattle.octets.specs.Standing.{standing-less, standing-equal, standing-greater}
+use Rattle.octets.specs.StandingLaws.{standing-less, standing-equal, standing-greater}
 use Rattle.keys.specs.Key.{held, keyOf, userOf, padded, keyRecord, userRecord, sound, soundKey, laid}
 
--- ---- what a record holds
+-- ---- the bytes that a record holds
 module _ (room : ℕ) (bytes : List ℕ) (len : ℕ) where
-  -- a length within the room: the first bytes
+  -- a length within the room: the first `len` bytes
   pub held-in : len ≤ room → held room bytes len ≡ take len bytes
   unfolding held
   held-in h = rw (le-leb len room h)
@@ -37,7 +36,7 @@ module _ (room : ℕ) (bytes : List ℕ) (len : ℕ) where
   unfolding held
   held-out h = rw (lt-leb len room h)
 
-  -- how many they are
+  -- the number of bytes held
   pub held-len : length bytes ≡ room → cond (leb len room) len 0 ≡ length (held room bytes len)
   unfolding held
   held-len q = go (leb len room) refl
@@ -46,7 +45,7 @@ module _ (room : ℕ) (bytes : List ℕ) (len : ℕ) where
       go true e = omega (arith, length-take len bytes, leb-true len room e)
       go false e = refl
 
-  -- never more than there is room for
+  -- no more bytes than the room has
   pub held-length : length (held room bytes len) ≤ room
   held-length = go (leb len room) refl
     where
@@ -54,7 +53,7 @@ module _ (room : ℕ) (bytes : List ℕ) (len : ℕ) where
       go true e = rw (held-in (leb-true len room e)) (omega (arith, length-take len bytes, leb-true len room e))
       go false e = rw (held-out (leb-false len room e)) (omega arith)
 
-  -- what is held is a front part of the bytes
+  -- the bytes held are a front part of the room
   pub held-front : length bytes ≡ room → held room bytes len ≡ take (length (held room bytes len)) bytes
   held-front q = go (leb len room) refl
     where
@@ -65,7 +64,7 @@ module _ (room : ℕ) (bytes : List ℕ) (len : ℕ) where
           rw (held-in h, n)
       go false e = rw (held-out (leb-false len room e))
 
-  -- bytes of a list of bytes
+  -- they are bytes, if the room's are
   pub held-bytes : areBytes bytes ≡ true → areBytes (held room bytes len) ≡ true
   held-bytes q = go (leb len room) refl
     where
@@ -73,14 +72,14 @@ module _ (room : ℕ) (bytes : List ℕ) (len : ℕ) where
       go true e = rw (held-in (leb-true len room e)) (bytes-take len bytes q)
       go false e = rw (held-out (leb-false len room e))
 
--- ---- records with zeros past the end, over the room
+-- ---- records with zeros past the end, for any room
 -- zeros pass the test for zeros
 zeros-all : (n : ℕ) → all isZero (replicate n 0) ≡ true
 unfolding all isZero
 zeros-all zero = refl
 zeros-all (suc n) = zeros-all n
 
--- bytes that pass it are that many zeros
+-- bytes that pass it are zeros
 all-zeros : (l : List ℕ) → all isZero l ≡ true → l ≡ replicate (length l) 0
 unfolding all isZero
 all-zeros [] e = refl
@@ -92,7 +91,7 @@ module _ (room : ℕ) (x : List ℕ) (h : length x ≤ room) where
   unfolding padded
   padded-length = omega (arith, length-append x (replicate (room - length x) 0), length-replicate {A = ℕ} (room - length x) 0)
 
-  -- what the record of a key holds is the key
+  -- the record of a key holds the key
   pub held-padded : held room (padded room x) (length x) ≡ x
   unfolding padded
   held-padded = held-in room (x ++ replicate (room - length x) 0) (length x) h ∙ take-append-seam x (replicate (room - length x) 0)
@@ -104,7 +103,7 @@ module _ (room : ℕ) (x : List ℕ) (h : length x ≤ room) where
       both (leb (length x) room) (all isZero (drop (length x) (x ++ replicate (room - length x) 0))) (le-leb (length x) room h)
       (rw (drop-append-seam x (replicate (room - length x) 0)) (zeros-all (room - length x)))
 
-  -- bytes laid into a room of zeros
+  -- a key copied into a room of zeros is the padded key
   pub laid-zeros : laid x (replicate room 0) ≡ padded room x
   unfolding laid padded
   laid-zeros =
@@ -124,7 +123,7 @@ module _ (room : ℕ) (bytes : List ℕ) (len : ℕ) (q : length bytes ≡ room)
   pub sound-held : length (held room bytes len) ≡ len
   sound-held = rw (held-in room bytes len sound-len) (omega (arith, length-take len bytes, sound-len))
 
-  -- a sound record has the bytes that it holds, and zeros past them
+  -- a sound record is the bytes that it holds, padded
   pub padded-held : padded room (held room bytes len) ≡ bytes
   unfolding sound padded
   padded-held =
@@ -134,63 +133,63 @@ module _ (room : ℕ) (bytes : List ℕ) (len : ℕ) (q : length bytes ≡ room)
 
 -- ---- internal keys
 -- no key is longer than the room
-pub keyOf-length : (k : Key) → length (keyOf k) ≤ 40
+pub keyOf-length : (k : Key) → length (keyOf k) ≤ keyRoom
 unfolding keyOf
-keyOf-length k = held-length 40 (k .bytes) (k .len)
+keyOf-length k = held-length keyRoom (k .bytes) (k .len)
 
 -- a key is a front part of its record
-pub keyOf-front : (k : Key) → length (k .bytes) ≡ 40 → keyOf k ≡ take (length (keyOf k)) (k .bytes)
+pub keyOf-front : (k : Key) → length (k .bytes) ≡ keyRoom → keyOf k ≡ take (length (keyOf k)) (k .bytes)
 unfolding keyOf
-keyOf-front k q = held-front 40 (k .bytes) (k .len) q
+keyOf-front k q = held-front keyRoom (k .bytes) (k .len) q
 
--- a byte of the key is the record's
-pub keyOf-at : (k : Key) → length (k .bytes) ≡ 40 → (i : ℕ) → i < length (keyOf k) → getD (keyOf k) i 0 ≡ getD (k .bytes) i 0
+-- a byte of the key is that of its record
+pub keyOf-at : (k : Key) → length (k .bytes) ≡ keyRoom → (i : ℕ) → i < length (keyOf k) → getD (keyOf k) i 0 ≡ getD (k .bytes) i 0
 keyOf-at k q i h = ap (λ (l : List ℕ). getD l i 0) (keyOf-front k q) ∙ getD-take (length (keyOf k)) (k .bytes) i 0 h
 
--- a key's elements are bytes where the record's are
+-- a key's elements are bytes if the record's are
 pub keyOf-bytes : (k : Key) → areBytes (k .bytes) ≡ true → areBytes (keyOf k) ≡ true
 unfolding keyOf
-keyOf-bytes k q = held-bytes 40 (k .bytes) (k .len) q
+keyOf-bytes k q = held-bytes keyRoom (k .bytes) (k .len) q
 
--- what is kept of a key fills the room
-pub keyRecord-length : (x : List ℕ) → length x ≤ 40 → length (keyRecord x .bytes) ≡ 40
+-- the kept record of a key fills its room
+pub keyRecord-length : (x : List ℕ) → length x ≤ keyRoom → length (keyRecord x .bytes) ≡ keyRoom
 unfolding keyRecord
-keyRecord-length x h = padded-length 40 x h
+keyRecord-length x h = padded-length keyRoom x h
 
--- what is kept of a key stands for that key
-pub keyOf-record : (x : List ℕ) → length x ≤ 40 → keyOf (keyRecord x) ≡ x
+-- the kept record of a key stands for that key
+pub keyOf-record : (x : List ℕ) → length x ≤ keyRoom → keyOf (keyRecord x) ≡ x
 unfolding keyOf keyRecord
-keyOf-record x h = held-padded 40 x h
+keyOf-record x h = held-padded keyRoom x h
 
--- a record of no bytes is sound if zeros stand in all its room
+-- a record of no bytes is sound if all its room is 0
 pub sound-empty : (k : Key) → k .len ≡ 0 → soundKey k ≡ all isZero (k .bytes)
 unfolding soundKey sound
 sound-empty k e = rw e
 
--- what is kept of a key is sound
-pub record-sound : (x : List ℕ) → length x ≤ 40 → soundKey (keyRecord x) ≡ true
+-- the kept record of a key is sound
+pub record-sound : (x : List ℕ) → length x ≤ keyRoom → soundKey (keyRecord x) ≡ true
 unfolding soundKey keyRecord
-record-sound x h = sound-padded 40 x h
+record-sound x h = sound-padded keyRoom x h
 
 -- one key has one sound record
-pub sound-is : (k : Key) → length (k .bytes) ≡ 40 → soundKey k ≡ true → k ≡ keyRecord (keyOf k)
+pub sound-is : (k : Key) → length (k .bytes) ≡ keyRoom → soundKey k ≡ true → k ≡ keyRecord (keyOf k)
 unfolding keyOf keyRecord soundKey
 sound-is k q s =
-    let p : k .bytes ≡ padded 40 (held 40 (k .bytes) (k .len)) = sym (padded-held 40 (k .bytes) (k .len) q s) in
-    let n : k .len ≡ length (held 40 (k .bytes) (k .len)) = sym (sound-held 40 (k .bytes) (k .len) q s) in
+    let p : k .bytes ≡ padded keyRoom (held keyRoom (k .bytes) (k .len)) = sym (padded-held keyRoom (k .bytes) (k .len) q s) in
+    let n : k .len ≡ length (held keyRoom (k .bytes) (k .len)) = sym (sound-held keyRoom (k .bytes) (k .len) q s) in
     λ i. record { bytes = p i; len = n i }
 
--- the key of a sound record is as many of its first bytes as its length says, and the room has them
-pub sound-front : (k : Key) → length (k .bytes) ≡ 40 → soundKey k ≡ true → (k .len ≤ length (k .bytes)) × (take (k .len) (k .bytes) ≡ keyOf k)
+-- the key of a sound record is its first `len` bytes, and the room has them
+pub sound-front : (k : Key) → length (k .bytes) ≡ keyRoom → soundKey k ≡ true → (k .len ≤ length (k .bytes)) × (take (k .len) (k .bytes) ≡ keyOf k)
 unfolding keyOf soundKey
 sound-front k q s =
-    let h = sound-len 40 (k .bytes) (k .len) q s in
-    (omega arith, sym (held-in 40 (k .bytes) (k .len) h))
+    let h = sound-len keyRoom (k .bytes) (k .len) q s in
+    (omega arith, sym (held-in keyRoom (k .bytes) (k .len) h))
 
--- its first bytes are tested as they stand in the room: beyond the room neither test passes, within it they are the key
-pub whole-is : (longest : ℕ) (k : Key) → sound 40 (k .bytes) (k .len) && model.goodKey longest (take (k .len) (k .bytes)) ≡ soundKey k && model.goodKey longest (keyOf k)
+-- testing the first bytes of the room is testing the record and its key: beyond the room both fail
+pub whole-is : (longest : ℕ) (k : Key) → sound keyRoom (k .bytes) (k .len) && model.goodKey longest (take (k .len) (k .bytes)) ≡ soundKey k && model.goodKey longest (keyOf k)
 unfolding keyOf soundKey sound held
-whole-is longest k = go (leb (k .len) 40)
+whole-is longest k = go (leb (k .len) keyRoom)
   where
     go : (t : Bool) → t && all isZero (drop (k .len) (k .bytes)) && model.goodKey longest (take (k .len) (k .bytes))
         ≡ t && all isZero (drop (k .len) (k .bytes)) && model.goodKey longest (cond t (take (k .len) (k .bytes)) [])
@@ -199,41 +198,41 @@ whole-is longest k = go (leb (k .len) 40)
 
 -- ---- user keys
 -- no user key is longer than the room
-pub userOf-length : (u : UserKey) → length (userOf u) ≤ 32
+pub userOf-length : (u : UserKey) → length (userOf u) ≤ longestUser
 unfolding userOf
-userOf-length u = held-length 32 (u .bytes) (u .len)
+userOf-length u = held-length longestUser (u .bytes) (u .len)
 
 -- a user key is a front part of its record
-pub userOf-front : (u : UserKey) → length (u .bytes) ≡ 32 → userOf u ≡ take (length (userOf u)) (u .bytes)
+pub userOf-front : (u : UserKey) → length (u .bytes) ≡ longestUser → userOf u ≡ take (length (userOf u)) (u .bytes)
 unfolding userOf
-userOf-front u q = held-front 32 (u .bytes) (u .len) q
+userOf-front u q = held-front longestUser (u .bytes) (u .len) q
 
--- a user key's elements are bytes where the record's are
+-- a user key's elements are bytes if the record's are
 pub userOf-bytes : (u : UserKey) → areBytes (u .bytes) ≡ true → areBytes (userOf u) ≡ true
 unfolding userOf
-userOf-bytes u q = held-bytes 32 (u .bytes) (u .len) q
+userOf-bytes u q = held-bytes longestUser (u .bytes) (u .len) q
 
--- what is kept of a user key stands for that user key
-pub userOf-record : (x : List ℕ) → length x ≤ 32 → userOf (userRecord x) ≡ x
+-- the kept record of a user key stands for that user key
+pub userOf-record : (x : List ℕ) → length x ≤ longestUser → userOf (userRecord x) ≡ x
 unfolding userOf userRecord
-userOf-record x h = held-padded 32 x h
+userOf-record x h = held-padded longestUser x h
 
 -- ---- the user key of an internal key
--- all but eight bytes
+-- it has eight bytes fewer
 pub user-length : (x : List ℕ) → length (model.user x) ≡ length x - 8
 unfolding model.user
 user-length x = omega (arith, length-take (length x - 8) x)
 
 -- it fits the room of a user key
-pub user-short : (k : Key) → length (model.user (keyOf k)) ≤ 32
+pub user-short : (k : Key) → length (model.user (keyOf k)) ≤ longestUser
 user-short k = omega (arith, user-length (keyOf k), keyOf-length k)
 
 -- it is a front part of the key's record
-pub user-front : (k : Key) → length (k .bytes) ≡ 40 → model.user (keyOf k) ≡ take (length (model.user (keyOf k))) (k .bytes)
+pub user-front : (k : Key) → length (k .bytes) ≡ keyRoom → model.user (keyOf k) ≡ take (length (model.user (keyOf k))) (k .bytes)
 unfolding model.user
 user-front k q = front-front (length (keyOf k) - 8) (keyOf k) (k .bytes) (omega arith) (keyOf-front k q)
 
--- of a key that is the first m bytes of a room it is the first x
+-- of the first m bytes of a room, the user key is the first m - 8
 pub user-taken : (room : List ℕ) (m x : ℕ) → m ≤ length room → x ≡ m - 8 → model.user (take m room) ≡ take x room
 unfolding model.user
 user-taken room m x h e =
@@ -241,7 +240,7 @@ user-taken room m x h e =
     rw n (take-take x m room (omega arith))
 
 -- ---- the trailer
--- no bytes have type 0
+-- a key of no bytes has type 0
 pub kind-none : (x : List ℕ) → length x ≡ 0 → model.kind x ≡ 0
 unfolding model.kind model.trailer number
 kind-none [] h = refl
@@ -252,7 +251,7 @@ pub kind-at : (x : List ℕ) → areBytes x ≡ true → 0 < length x → model.
 unfolding model.kind model.trailer
 kind-at x e h = omega (arith, number-drop x (length x - 8) (omega arith), bytes-at x (length x - 8) e)
 
--- the sequence is the trailer without its lowest byte: read down to place j, the one after that byte or the end
+-- the sequence is the trailer without its lowest byte. j is the place after that byte, or the end
 pub sequence-from : (x : List ℕ) (j : ℕ) → areBytes x ≡ true → min (length x - 8 + 1) (length x) ≤ j → j ≤ length x → j ≤ length x - 8 + 1
     → number (drop j x) ≡ model.sequence x
 unfolding model.sequence model.trailer number
@@ -262,14 +261,14 @@ sequence-from (y ∷ x) j e g h k =
     let p : j ≡ length l - 8 + 1 = omega arith in
     rw p (omega (arith, number-drop l (length l - 8) (omega arith), bytes-at l (length l - 8) e))
 
--- what a good key is
+-- a good key, part by part
 pub record GoodKey (longest : ℕ) (x : List ℕ) : Type 0 where
   pub long : 9 ≤ length x
   pub short : length x ≤ longest + 8
   pub of-bytes : areBytes x ≡ true
   pub kinds : model.kind x ≤ 1
 
--- the test says so
+-- the test says each part
 pub good-says : (longest : ℕ) (x : List ℕ) → model.goodKey longest x ≡ true → GoodKey longest x
 unfolding model.goodKey
 good-says longest x g =
@@ -304,13 +303,13 @@ good-user-is longest u h e = rw (le-leb (length u) longest h, e) (true-right (le
     true-right false = refl
 
 -- a good key fits the room
-pub good-length : (x : List ℕ) → model.goodKey (full .longest) x ≡ true → length x ≤ 40
+pub good-length : (x : List ℕ) → model.goodKey (full .longest) x ≡ true → length x ≤ keyRoom
 unfolding full
-good-length x g = good-says 32 x g .short
+good-length x g = good-says longestUser x g .short
 
 -- ---- how two internal keys stand: by their user keys, then the larger rank first
 module _ (a b : List ℕ) where
-  -- two numbers that differ, and stand as the user keys do, say whether the key is before
+  -- x and y differ and stand as the user keys do: x < y tells whether the key is before
   pub before-users : (x y : ℕ) → (x ≡ y → ⊥) → (x < y → standing model.userBefore (model.user a) (model.user b) ≡ Less)
       → (y < x → standing model.userBefore (model.user a) (model.user b) ≡ Greater) → ltb x y ≡ model.before a b
   unfolding model.before byFirst
@@ -322,7 +321,7 @@ module _ (a b : List ℕ) where
           let h = standing-greater model.userBefore (model.user a) (model.user b) (g (omega (arith, ltb-false x y e))) in
           rw (h .0, h .1)
 
-  -- one user key: by rank, the larger first
+  -- equal user keys: the larger rank is first
   pub before-ranks : standing model.userBefore (model.user a) (model.user b) ≡ Equal → model.before a b ≡ ltb (model.rank b) (model.rank a)
   unfolding model.before byFirst
   before-ranks e =

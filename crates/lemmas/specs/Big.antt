@@ -1,5 +1,5 @@
--- Big-endian numbers: lists of bytes of one length stand in the order of the numbers that they are, so that several bytes are compared at once; parts of a number
--- are those of its bytes. Assumes nothing.
+-- Big-endian numbers. Byte lists of equal length have the order of their numbers, so several bytes can be compared at once. Dividing a number takes its bytes apart.
+-- Assumes nothing.
 use Prim.Native.Nat.{ℕ, zero, suc, _+_, _-_, _*_, _/_, _%_, _^_, _≤_, _<_}
 use mathlib.Core.Path.{_≡_, refl, sym, ap, _∙_}
 use mathlib.Core.Bool.{Bool, true, false, _&&_}
@@ -19,20 +19,20 @@ use Rattle.lemmas.specs.Lists.{all}
 use Rattle.lemmas.specs.Maps.{all-append}
 use Rattle.lemmas.specs.Order.{byFirst, lexb, lex-same}
 
--- the number that goes on from x with these bytes, the first one the greatest
+-- the big-endian number whose upper part is x and whose lower bytes are these
 unfoldable pub big : ℕ → List ℕ → ℕ
 big x [] = x
 big x (b ∷ bs) = big (x * 256 + b) bs
 
--- the first byte of a list of bytes, and the others
+-- the first of a list of bytes is a byte
 first-byte : (c : ℕ) (a : List ℕ) → areBytes (c ∷ a) ≡ true → c < 256
 first-byte c a h = ltb-true c 256 (and-left (ltb c 256) (areBytes a) h)
 
--- all but the first of some bytes are bytes
+-- the others are bytes too
 other-bytes : (c : ℕ) (a : List ℕ) → areBytes (c ∷ a) ≡ true → areBytes a ≡ true
 other-bytes c a h = and-right (ltb c 256) (areBytes a) h
 
--- the smaller start decides, whatever follows
+-- the smaller upper part decides, whatever bytes follow
 pub big-start : (x y : ℕ) (a b : List ℕ) → length a ≡ length b → areBytes a ≡ true → x < y → big x a < big y b
 unfolding big
 big-start x y [] [] e h l = l
@@ -41,7 +41,7 @@ big-start x y (c ∷ a) [] e h l = absurd (omega (arith, e))
 big-start x y (c ∷ a) (d ∷ b) e h l =
     big-start (x * 256 + c) (y * 256 + d) a b (omega (arith, e)) (other-bytes c a h) (omega (arith, first-byte c a h))
 
--- numbers that start alike stand as their bytes
+-- with equal upper parts, numbers have the order of their bytes
 pub big-order : (x : ℕ) (a b : List ℕ) → length a ≡ length b → areBytes a ≡ true → areBytes b ≡ true → lexb a b ≡ ltb (big x a) (big x b)
 unfolding big lexb byFirst
 big-order x [] [] e h k = sym (le-ltb x x (omega arith))
@@ -60,12 +60,12 @@ big-order x (c ∷ a) (d ∷ b) e h k = go (ltb c d) (ltb d c) refl refl (big-or
         let same : c ≡ d = omega (arith, ltb-false c d p, ltb-false d c q) in
         rw (p, q) (r ∙ ap (λ (z : ℕ). ltb (big (x * 256 + c) a) (big (x * 256 + z) b)) same)
 
--- bytes whose numbers are the same are the same
+-- byte lists of equal length with the same number are the same
 pub big-same : (a b : List ℕ) → length a ≡ length b → areBytes a ≡ true → areBytes b ≡ true → big 0 a ≡ big 0 b → a ≡ b
 big-same a b e h k n =
     lex-same a b (big-order 0 a b e h k ∙ le-ltb (big 0 a) (big 0 b) (omega arith)) (big-order 0 b a (sym e) k h ∙ le-ltb (big 0 b) (big 0 a) (omega arith))
 
--- a number is 0 exactly if its bytes are
+-- if a number is 0, its upper part and all its bytes are 0
 pub big-zero : (x : ℕ) (a : List ℕ) → big x a ≡ 0 → (x ≡ 0) × (all (λ b. eqb b 0) a ≡ true)
 unfolding big all
 big-zero x [] e = (e, refl)
@@ -74,7 +74,7 @@ big-zero x (c ∷ a) e =
     let z : c ≡ 0 = omega (arith, r .0) in
     (omega (arith, r .0), rw z (r .1))
 
--- zeros are the number 0
+-- the number of zero bytes is 0
 pub zeros-big : (a : List ℕ) → all (λ b. eqb b 0) a ≡ true → big 0 a ≡ 0
 unfolding big all
 zeros-big [] h = refl
@@ -82,19 +82,22 @@ zeros-big (c ∷ a) h =
     let z : c ≡ 0 = eqb-true c 0 (and-left (eqb c 0) (all (λ b. eqb b 0) a) h) in
     rw z (zeros-big a (and-right (eqb c 0) (all (λ b. eqb b 0) a) h))
 
--- bytes from a place on, n at once: zeros all, or not
+-- all bytes are 0
 abbrev zeros : List ℕ → Bool
 zeros l = all (λ b. eqb b 0) l
 
 module _ (n i : ℕ) (a : List ℕ) where
+  -- zeros from i on: n zeros there, and zeros after them
   in-two : zeros (drop i a) ≡ zeros (take n (drop i a)) && zeros (drop (i + n) a)
   in-two =
       ap zeros (sym (take-append-drop n (drop i a))) ∙ all-append (λ b. eqb b 0) (take n (drop i a)) (drop n (drop i a))
       ∙ ap (λ (l : List ℕ). zeros (take n (drop i a)) && zeros l) (drop-drop n i a)
 
+  -- n bytes whose number is 0 are passed: the answer is that of the rest
   pub zeros-on : big 0 (take n (drop i a)) ≡ 0 → zeros (drop i a) ≡ zeros (drop (i + n) a)
   zeros-on e = in-two ∙ rw (big-zero 0 (take n (drop i a)) e .1)
 
+  -- n bytes whose number is not 0: not all are 0
   pub zeros-not : (big 0 (take n (drop i a)) ≡ 0 → ⊥) → zeros (drop i a) ≡ false
   zeros-not e = go (zeros (take n (drop i a))) refl
     where
@@ -103,7 +106,7 @@ module _ (n i : ℕ) (a : List ℕ) where
       go false h = in-two ∙ rw h
 
 -- ---- parts of a number: its first bytes, the others, one of them
--- what a number goes on from stands above its bytes
+-- a number is its upper part times a power of 256, plus its bytes
 big-from : (x : ℕ) (a : List ℕ) → big x a ≡ x * 256 ^ length a + big 0 a
 unfolding big
 big-from x [] = omega arith
@@ -112,13 +115,13 @@ big-from x (c ∷ a) =
     let up : x * 256 ^ suc (length a) ≡ x * 256 * p = ap (λ (z : ℕ). x * z) (pow-succ' 256 (length a)) ∙ sym (mul-assoc x 256 p) in
     omega (arith, big-from (x * 256 + c) a, big-from (0 * 256 + c) a, add-mul (x * 256) c p, add-mul (0 * 256) c p)
 
--- a number by its first bytes and the others
+-- the number of two lists joined, by the numbers of both
 pub big-append : (x : ℕ) (a b : List ℕ) → big x (a ++ b) ≡ big x a * 256 ^ length b + big 0 b
 unfolding big
 big-append x [] b = big-from x b
 big-append x (c ∷ a) b = big-append (x * 256 + c) a b
 
--- a number of bytes is below the power of its width
+-- the number of n bytes is below 256 to the n
 pub big-bound : (a : List ℕ) → areBytes a ≡ true → big 0 a < 256 ^ length a
 unfolding big
 big-bound [] h = omega arith
@@ -128,20 +131,21 @@ big-bound (c ∷ a) h =
     omega (arith, big-from (0 * 256 + c) a, pow-succ' 256 (length a), add-mul (0 * 256) c p)
 
 module _ (c : ℕ) (l : List ℕ) (h : areBytes l ≡ true) where
-  -- in two parts, the lower one below the power of its width
+  -- a number in two parts: its first c bytes and the others
   parted : big 0 l ≡ big 0 (take c l) * 256 ^ (length l - c) + big 0 (drop c l)
   parted =
       ap (big 0) (sym (take-append-drop c l)) ∙ big-append 0 (take c l) (drop c l)
       ∙ ap (λ (n : ℕ). big 0 (take c l) * 256 ^ n + big 0 (drop c l)) (length-drop c l)
 
+  -- the number of the others is below the power of their width
   rest-bound : big 0 (drop c l) < 256 ^ (length l - c)
   rest-bound = rw (← length-drop c l) (big-bound (drop c l) (bytes-drop c l h))
 
-  -- the first bytes: the others are divided away
+  -- dividing leaves the first c bytes
   pub big-front : big 0 l / 256 ^ (length l - c) ≡ big 0 (take c l)
   big-front = ap (λ (z : ℕ). z / 256 ^ (length l - c)) parted ∙ digits-div (big 0 (take c l)) rest-bound
 
-  -- the others: the first bytes are multiplied away
+  -- multiplying, cut to the width, leaves the other bytes
   pub big-rest : c ≤ length l → big 0 l * 256 ^ c % 256 ^ length l ≡ big 0 (drop c l) * 256 ^ c
   big-rest k =
       let w : 256 ^ length l ≡ 256 ^ (length l - c) * 256 ^ c = ap (λ (n : ℕ). 256 ^ n) (omega arith) ∙ pow-add 256 (length l - c) c in
@@ -152,7 +156,7 @@ module _ (c : ℕ) (l : List ℕ) (h : areBytes l ≡ true) where
       let below : big 0 (drop c l) * 256 ^ c < 256 ^ length l = rw w (mul-lt-mul-of-pos-right rest-bound (one-le-pow c 256 (omega arith))) in
       ap (λ (z : ℕ). z % 256 ^ length l) e ∙ digits-mod above below
 
--- one byte
+-- byte c of a number, by a division and a remainder
 pub big-byte : (c : ℕ) (l : List ℕ) → areBytes l ≡ true → c < length l → big 0 l / 256 ^ (length l - (c + 1)) % 256 ≡ getD l c 0
 unfolding big
 big-byte c l h k =
@@ -160,7 +164,7 @@ big-byte c l h k =
     let last : big 0 (take (c + 1) l) ≡ big 0 (take c l) * 256 + b = rw (add-one c, take-suc l c 0 k) (omega (arith, big-append 0 (take c l) (b ∷ []))) in
     ap (λ (z : ℕ). z % 256) (big-front (c + 1) l h ∙ last) ∙ digits-mod (big 0 (take c l)) (bytes-at l c h)
 
--- so many bytes as bits
+-- n bytes are 8 n bits
 pub byte-bits : (n : ℕ) → 2 ^ (8 * n) ≡ 256 ^ n
 byte-bits zero = refl
 byte-bits (suc n) =

@@ -1,4 +1,4 @@
--- Bisecting a list whose test first passes and then fails: steps for a loop, and where it ends. Assumes nothing.
+-- Bisecting a list whose elements first pass a test and then fail it: the steps of a loop, and where it ends. Assumes nothing.
 use Prim.Native.Nat.{ℕ, zero, suc, _+_, _-_, _/_, _≤_, _<_}
 use mathlib.Core.Path.{_≡_, refl, sym, _∙_, ap}
 use mathlib.Core.Bool.{Bool, true, false, not, cond}
@@ -15,7 +15,7 @@ use Rattle.lemmas.specs.Lists.{chain}
 use Rattle.lemmas.specs.Slices.{at-run}
 use Rattle.lemmas.specs.Loops.{before-first, first-is, chain-at}
 
--- bisecting lo to hi, in at most n steps: past the middle where the test passes there
+-- bisects lo to hi in at most n steps: goes on past the middle where the test passes there, else before it
 unfoldable pub bisect : (ℕ → Bool) → ℕ → ℕ → ℕ → ℕ
 bisect p zero lo hi = lo
 bisect p (suc n) lo hi =
@@ -24,21 +24,23 @@ bisect p (suc n) lo hi =
     lo
 
 module _ (p : ℕ → Bool) where
+  -- one step where the test passes in the middle: on past it
   one-up : (n lo hi : ℕ) → lo < hi → p (lo + (hi - lo) / 2) ≡ true → bisect p (suc n) lo hi ≡ bisect p n (lo + (hi - lo) / 2 + 1) hi
   unfolding bisect
   one-up n lo hi h e = rw (lt-ltb lo hi h, e)
 
+  -- one step where it fails: up to the middle
   one-down : (n lo hi : ℕ) → lo < hi → p (lo + (hi - lo) / 2) ≡ false → bisect p (suc n) lo hi ≡ bisect p n lo (lo + (hi - lo) / 2)
   unfolding bisect
   one-down n lo hi h e = rw (lt-ltb lo hi h, e)
 
-  -- nothing is left between
+  -- nothing is left between lo and hi: the answer is lo
   pub met : (n lo hi : ℕ) → hi ≤ lo → bisect p n lo hi ≡ lo
   unfolding bisect
   met zero lo hi h = refl
   met (suc n) lo hi h = rw (le-ltb lo hi h)
 
-  -- enough steps are enough
+  -- more steps than hi - lo change nothing
   pub fuel : (n m lo hi : ℕ) → hi ≤ lo + n → hi ≤ lo + m → bisect p n lo hi ≡ bisect p m lo hi
   fuel zero m lo hi h k = met zero lo hi (omega arith) ∙ sym (met m lo hi (omega arith))
   fuel (suc n) zero lo hi h k = met (suc n) lo hi (omega arith) ∙ sym (met zero lo hi (omega arith))
@@ -55,7 +57,7 @@ module _ (p : ℕ → Bool) where
       go (yes l) true e up down = one-up n lo hi l e ∙ up l ∙ sym (one-up m lo hi l e)
       go (yes l) false e up down = one-down n lo hi l e ∙ down l ∙ sym (one-down m lo hi l e)
 
-  -- a turn of the loop: the test passes in the middle, on past it
+  -- a turn of the loop where the test passes in the middle: on past it
   pub turn-up : (lo hi : ℕ) → lo < hi → p (lo + (hi - lo) / 2) ≡ true
       → bisect p (hi - lo) lo hi ≡ bisect p (hi - (lo + (hi - lo) / 2 + 1)) (lo + (hi - lo) / 2 + 1) hi
   turn-up lo hi h e =
@@ -63,7 +65,7 @@ module _ (p : ℕ → Bool) where
       ∙ one-up (hi - lo) lo hi h e
       ∙ fuel (hi - lo) (hi - (lo + (hi - lo) / 2 + 1)) (lo + (hi - lo) / 2 + 1) hi (omega arith) (omega arith)
 
-  -- the test fails in the middle: up to there
+  -- a turn of the loop where the test fails in the middle: up to there
   pub turn-down : (lo hi : ℕ) → lo < hi → p (lo + (hi - lo) / 2) ≡ false
       → bisect p (hi - lo) lo hi ≡ bisect p (lo + (hi - lo) / 2 - lo) lo (lo + (hi - lo) / 2)
   turn-down lo hi h e =
@@ -73,16 +75,16 @@ module _ (p : ℕ → Bool) where
 
 -- ---- where it ends
 
--- r parts lo to hi: before it the test passes, from it on it fails
+-- r divides lo to hi: before r the test passes, from r on it fails
 pub record Edge (p : ℕ → Bool) (lo hi r : ℕ) : Type 0 where
   pub above : lo ≤ r
   pub within : r ≤ hi
   pub passed : (i : ℕ) → lo ≤ i → i < r → p i ≡ true
   pub failed : (i : ℕ) → r ≤ i → i < hi → p i ≡ false
 
--- a test that never turns back between low and top
+-- a test that, once it fails between low and top, fails from there on
 module _ (p : ℕ → Bool) (low top : ℕ) (back : (i : ℕ) → low ≤ i → i + 1 < top → p (i + 1) ≡ true → p i ≡ true) where
-  -- passes at a place, and so at all before it
+  -- a test that passes at j passes at every place before j
   pub passes-below : (i j : ℕ) → low ≤ i → i ≤ j → j < top → p j ≡ true → p i ≡ true
   passes-below i zero g h t e = let q : i ≡ 0 = omega arith in rw q e
   passes-below i (suc j) g h t e =
@@ -92,11 +94,12 @@ module _ (p : ℕ → Bool) (low top : ℕ) (back : (i : ℕ) → low ≤ i → 
       go (yes l) ih = ih l
       go (no l) ih = let q : i ≡ suc j = omega arith in rw q e
 
+  -- a test that fails at i fails at every place after i
   fails-on : (i j : ℕ) (b : Bool) → p j ≡ b → low ≤ i → i ≤ j → j < top → p i ≡ false → p j ≡ false
   fails-on i j true e g h t f = clash (passes-below i j g h t e) f
   fails-on i j false e g h t f = e
 
-  -- bisecting ends where the test turns
+  -- bisecting ends at the place where the test begins to fail
   pub edge : (n lo hi : ℕ) → low ≤ lo → lo ≤ hi → hi ≤ lo + n → hi ≤ top → Edge p lo hi (bisect p n lo hi)
   edge zero lo hi g h k t =
       rw (met p zero lo hi (omega arith))
@@ -138,10 +141,10 @@ module _ (p : ℕ → Bool) (low top : ℕ) (back : (i : ℕ) → low ≤ i → 
           fail i a c (yes d) = down l .failed i a d
           fail i a c (no d) = fails-on (lo + (hi - lo) / 2) i (p i) refl (omega arith) (omega arith) (omega arith) e
 
--- in a run of a list, with a test that never turns back there: as many stand before the end of the search as before the first that fails
+-- a run of a list with such a test: bisecting finds the first element that fails
 module _ {A : Type 0} (q : A → Bool) (lo hi : ℕ) (l : List A) (d : A) (h : lo ≤ hi) (k : hi ≤ length l)
     (back : (i : ℕ) → lo ≤ i → i + 1 < hi → q (getD l (i + 1) d) ≡ true → q (getD l i d) ≡ true) where
-  -- the number of elements before the first that fails
+  -- the place found is the run's start plus the number of elements before the first that fails
   pub bisect-run : bisect (λ i. q (getD l i d)) (hi - lo) lo hi ≡ lo + before-first (λ x. not (q x)) (slice lo hi l)
   bisect-run =
       let r : ℕ = bisect (λ i. q (getD l i d)) (hi - lo) lo hi in
@@ -153,7 +156,7 @@ module _ {A : Type 0} (q : A → Bool) (lo hi : ℕ) (l : List A) (d : A) (h : l
       (λ b. ap (λ x. not (q x)) (at-run lo hi l (r - lo) d (omega (arith, e .within))) ∙ ap not (e .failed (lo + (r - lo)) (omega arith) (omega arith))) in
       omega (arith, e .above)
 
--- over a whole list
+-- the same over a whole list
 pub bisect-list : {A : Type 0} (q : A → Bool) (l : List A) (d : A) → ((i : ℕ) → i + 1 < length l → q (getD l (i + 1) d) ≡ true → q (getD l i d) ≡ true)
     → bisect (λ i. q (getD l i d)) (length l) 0 (length l) ≡ before-first (λ x. not (q x)) l
 bisect-list q l d back =
@@ -162,7 +165,7 @@ bisect-list q l d back =
     ∙ ap (λ (z : List _). 0 + before-first (λ x. not (q x)) z) (take-length l)
     ∙ omega arith
 
--- a test that never turns back along neighbours that pass r, over a list each of whose neighbours does
+-- a test that passes at each left neighbour of an element that passes, over a list whose neighbours all stand in r
 pub back-along : {A : Type 0} (r : A → A → Bool) (q : A → Bool) (l : List A) (d : A) → chain r l ≡ true → ((x y : A) → r x y ≡ true → q y ≡ true → q x ≡ true)
     → (i : ℕ) → i + 1 < length l → q (getD l (i + 1) d) ≡ true → q (getD l i d) ≡ true
 back-along r q l d c h i k e = h (getD l i d) (getD l (i + 1) d) (chain-at r l i d c k) e

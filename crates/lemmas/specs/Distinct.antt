@@ -1,4 +1,4 @@
--- Numbers none of which stands twice: over a run, by counting, and where a list grows at its end. Assumes nothing.
+-- Lists of numbers without repetition: over a run, by counting, and for a list that grows at its end. Assumes nothing.
 use Prim.Native.Nat.{ℕ, _+_, _≤_, _<_}
 use mathlib.Core.Path.{_≡_, refl, sym, ap, _∙_}
 use mathlib.Core.Bool.{Bool, true, false, not, _&&_, _||_}
@@ -16,31 +16,33 @@ use Rattle.lemmas.specs.Slices.{rest-cons}
 use Rattle.lemmas.specs.Maps.{any-append}
 use Rattle.lemmas.specs.Loops.{any-found, any-passed, any-ended}
 
--- two tests that follow from each other
+-- two tests that imply each other are equal
 pub same-test : (a b : Bool) → (a ≡ true → b ≡ true) → (b ≡ true → a ≡ true) → a ≡ b
 same-test true true h k = refl
 same-test false false h k = refl
 same-test true false h k = clash (h refl) refl
 same-test false true h k = clash (k refl) refl
 
--- ---- a number sought in a run
+-- ---- a loop that looks for a number in a run
 module _ (n i e : ℕ) (l : List ℕ) where
-  -- over the plain run
+  -- the number is at place i
   pub member-found : i < e → e ≤ length l → getD l i 0 ≡ n → member n (slice i e l) ≡ true
   unfolding member
   member-found h k t = any-found (λ m. eqb m n) i e l 0 h k (eq-eqb (getD l i 0) n t)
 
+  -- it is not at place i: the answer is that of the places after i
   pub member-passed : i < e → e ≤ length l → (getD l i 0 ≡ n → ⊥) → member n (slice i e l) ≡ member n (slice (i + 1) e l)
   unfolding member
   member-passed h k t = any-passed (λ m. eqb m n) i e l 0 h k (ne-eqb (getD l i 0) n t)
 
+  -- no place is left: it is not there
   pub member-ended : i ≤ e → e ≤ i → member n (slice i e l) ≡ false
   unfolding member
   member-ended h k = any-ended (λ m. eqb m n) i e l 0 h k
 
 -- ---- by counting
 
--- lists that have each number equally often
+-- lists that hold each number equally often agree on whether a number stands twice
 pub distinct-tallies : (a b : List ℕ) → ((n : ℕ) → tally (λ m. eqb m n) a ≡ tally (λ m. eqb m n) b) → distinct a ≡ distinct b
 distinct-tallies a b h =
     same-test (distinct a) (distinct b)
@@ -49,7 +51,7 @@ distinct-tallies a b h =
 
 -- ---- a list that grows at its end
 
--- a number of two lists is one of the first or of the second
+-- a number is in two lists joined if it is in one of them
 pub member-either : (n : ℕ) (a b : List ℕ) → member n (a ++ b) ≡ (member n a || member n b)
 unfolding member
 member-either n a b = any-append (λ m. eqb m n) a b
@@ -64,9 +66,9 @@ distinct-mid a b x = distinct-tallies (a ++ (x ∷ b)) (x ∷ (a ++ b)) same
         let p : ℕ → Bool = λ m. eqb m n in
         omega (arith, tally-append p a (x ∷ b), tally-append p a b, tally-append p (x ∷ []) b, tally-append p (x ∷ []) (a ++ b))
 
--- the numbers of b put at the end of a, one by one, up to the one at i
+-- the numbers of b are put at the end of a one by one. This is about the one at place i of b
 module _ (a b : List ℕ) (i : ℕ) (h : i < length b) where
-  -- it stands there already
+  -- it is there already: a number stands twice
   pub onto-found : member (getD b i 0) (a ++ take i b) ≡ true → distinct (a ++ b) ≡ false
   onto-found t =
       let x = getD b i 0 in
@@ -75,7 +77,7 @@ module _ (a b : List ℕ) (i : ℕ) (h : i < length b) where
       ap (λ (z : List ℕ). a ++ z) (sym (take-append-drop i b) ∙ ap (λ (z : List ℕ). take i b ++ z) (rest-cons b i 0 h)) ∙ sym (append-assoc a (take i b) (x ∷ r)) in
       rw (e, distinct-mid (a ++ take i b) r x, member-either x (a ++ take i b) r, t)
 
-  -- it does not
+  -- it is not there yet: the answer stays
   pub onto-passed : member (getD b i 0) (a ++ take i b) ≡ false → distinct (a ++ take (i + 1) b) ≡ distinct (a ++ take i b)
   onto-passed t =
       let x = getD b i 0 in
@@ -83,6 +85,6 @@ module _ (a b : List ℕ) (i : ℕ) (h : i < length b) where
       rw (add-one i, take-suc b i 0 h) (sym (append-assoc a (take i b) (x ∷ []))) in
       rw (e, distinct-mid (a ++ take i b) [] x, append-nil (a ++ take i b), t)
 
--- all of them are there
+-- all numbers of b have been put there
 pub onto-ended : (a b : List ℕ) (i : ℕ) → length b ≤ i → distinct (a ++ take i b) ≡ distinct (a ++ b)
 onto-ended a b i h = ap (λ (z : List ℕ). distinct (a ++ z)) (take-all i b h)

@@ -1,4 +1,4 @@
--- Fractions whose wholes go into one number: they stand as their parts do, each as often as its whole goes into it. Assumes nothing.
+-- Fractions over a common denominator compare as their scaled numerators do. Assumes nothing.
 use Prim.Native.Nat.{ℕ, zero, suc, _*_, _<_}
 use mathlib.Core.Path.{_≡_, refl}
 use mathlib.Core.Bool.{Bool, true, false}
@@ -7,12 +7,12 @@ use native.Mathlib.Omega.{arith}
 use lib.Dec.{ltb}
 use borrow.Author.Tests.{ltb-true, ltb-false, lt-ltb, le-ltb}
 
--- a factor of what is not 0 is not 0
+-- a factor of a number that is not 0 is not 0
 factor-pos : (b k w : ℕ) → b * k ≡ w → 0 < w → 0 < b
 factor-pos zero k w e h = absurd (omega (arith, zero-mul k))
 factor-pos (suc b) k w e h = omega arith
 
--- two fractions a / b and c / d, with b and d going k and l times into one whole: they stand as a × k and c × l
+-- a / b and c / d, where b times k and d times l are one number w: they compare as a × k and c × l
 pub over-one : (a b c d k l w : ℕ) → b * k ≡ w → d * l ≡ w → 0 < w → ltb (a * d) (c * b) ≡ ltb (a * k) (c * l)
 over-one a b c d k l w p q h = go (ltb (a * k) (c * l)) refl
   where

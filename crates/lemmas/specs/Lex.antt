@@ -1,4 +1,4 @@
--- How the dictionary order of two lists goes on from a place up to which they agree: for a loop that compares. Assumes nothing.
+-- Dictionary order of two lists that agree up to a place, for a loop that compares them. Assumes nothing.
 use Prim.Native.Nat.{ℕ, zero, suc, _≤_, _<_}
 use mathlib.Core.Path.{_≡_, refl}
 use mathlib.Core.Bool.{Bool, true, false}
@@ -9,19 +9,19 @@ use lib.ListN.{length, take, drop, drop-of-length-le}
 use Rattle.lemmas.specs.Order.{lexb, byFirst, clash, nat-order, lex-order}
 use Rattle.lemmas.specs.Slices.{rest-cons}
 
--- "a is before b", from place i on, where one of them has ended. What they say of "b is before a" is the same with a and b exchanged
+-- "a is before b" from place i on, where one of them has ended. For "b is before a" exchange a and b
 module _ (a b : List ℕ) (i : ℕ) where
-  -- both have ended
+  -- both have ended: a is not before b
   pub both-end : length a ≤ i → length b ≤ i → lexb (drop i a) (drop i b) ≡ false
   unfolding lexb
   both-end h k = rw (drop-of-length-le a h, drop-of-length-le b k)
 
-  -- a has ended, and b has not
+  -- a has ended and b has not: a is before b
   pub left-ends : length a ≤ i → i < length b → lexb (drop i a) (drop i b) ≡ true
   unfolding lexb
   left-ends h k = rw (drop-of-length-le a h, rest-cons b i 0 k)
 
-  -- b has ended
+  -- b has ended: a is not before b
   pub right-ends : length b ≤ i → lexb (drop i a) (drop i b) ≡ false
   unfolding lexb
   right-ends k = rw (drop-of-length-le b k) (nothing-before (drop i a))
@@ -32,7 +32,7 @@ module _ (a b : List ℕ) (i : ℕ) where
 
 -- ---- several numbers at once
 
--- lists that agree up to a place stand as what is left of them
+-- lists that agree up to place i compare as their rests from i on
 pub agreed : (i : ℕ) (a b : List ℕ) → i ≤ length a → i ≤ length b → take i a ≡ take i b → lexb a b ≡ lexb (drop i a) (drop i b)
 unfolding lexb byFirst
 agreed zero a b h k e = refl
@@ -43,7 +43,7 @@ agreed (suc i) (x ∷ a) (y ∷ b) h k e =
     let rest : take i a ≡ take i b = cc in
     rw (here, nat-order .irrefl y) (agreed i a b (omega arith) (omega arith) rest)
 
--- the front of two lists decides where it differs
+-- fronts that differ decide
 pub front-less : (n : ℕ) (a b : List ℕ) → n ≤ length a → n ≤ length b → lexb (take n a) (take n b) ≡ true → lexb a b ≡ true
 unfolding lexb byFirst
 front-less zero a b h k e = clash e refl
@@ -56,7 +56,7 @@ front-less (suc n) (x ∷ a) (y ∷ b) h k e = go (ltb x y) (ltb y x) e (front-l
     go false true e ih = clash e refl
     go false false e ih = ih e
 
--- not both before each other
+-- two lists are not both before each other
 pub not-both : (a b : List ℕ) → lexb a b ≡ true → lexb b a ≡ false
 not-both a b h = go (lexb b a) refl
   where

@@ -1,4 +1,4 @@
--- Lists by tests: what the definitions above need and the library has only over decisions. Assumes nothing.
+-- List functions with tests that are Booleans. The library has them only with decisions. Assumes nothing.
 use Prim.Native.Nat.{ℕ, zero, suc, _+_}
 use mathlib.Core.Bool.{Bool, true, false, not, _&&_, _||_, cond}
 use mathlib.Core.List.{List, [], _∷_, _++_}
@@ -6,39 +6,42 @@ use mathlib.Core.Option.{Option, none, some}
 use lib.Dec.{eqb}
 
 module _ {A : Type 0} where
-  -- put in front, or not
+  -- puts x in front if the test holds
   unfoldable pub push : Bool → A → List A → List A
   push true x xs = x ∷ xs
   push false x xs = xs
 
-  -- those that pass the test, in order
+  -- the items that pass the test, in order
   unfoldable pub keep : (A → Bool) → List A → List A
   keep p [] = []
   keep p (x ∷ xs) = push (p x) x (keep p xs)
 
+  -- some item passes
   unfoldable pub any : (A → Bool) → List A → Bool
   any p [] = false
   any p (x ∷ xs) = p x || any p xs
 
+  -- all items pass
   unfoldable pub all : (A → Bool) → List A → Bool
   all p [] = true
   all p (x ∷ xs) = p x && all p xs
 
-  -- the first that passes
+  -- the first item that passes
   unfoldable pub find : (A → Bool) → List A → Option A
   find p [] = none
   find p (x ∷ xs) = cond (p x) (some x) (find p xs)
 
-  -- a stable sort: an item goes in front of the first that is not strictly before it
+  -- puts x in front of the first item that is not strictly before it
   unfoldable pub insert : (A → A → Bool) → A → List A → List A
   insert lt x [] = x ∷ []
   insert lt x (y ∷ ys) = cond (lt y x) (y ∷ insert lt x ys) (x ∷ y ∷ ys)
 
+  -- a stable sort by insertion
   unfoldable pub sort : (A → A → Bool) → List A → List A
   sort lt [] = []
   sort lt (x ∷ xs) = insert lt x (sort lt xs)
 
-  -- each neighbour pair passes
+  -- each item stands in r to the next one
   unfoldable pub chain : (A → A → Bool) → List A → Bool
   chain r [] = true
   chain r (x ∷ []) = true
@@ -49,15 +52,16 @@ module _ {A : Type 0} where
   join [] = []
   join (x ∷ xs) = x ++ join xs
 
+  -- no items
   unfoldable pub isEmpty : List A → Bool
   isEmpty [] = true
   isEmpty (x ∷ xs) = false
 
--- the number stands in the list
+-- the number is in the list
 unfoldable pub member : ℕ → List ℕ → Bool
 member n ns = any (λ m. eqb m n) ns
 
--- no number twice
+-- no number is there twice
 unfoldable pub distinct : List ℕ → Bool
 distinct [] = true
 distinct (n ∷ ns) = not (member n ns) && distinct ns
@@ -67,7 +71,7 @@ unfoldable pub sum : List ℕ → ℕ
 sum [] = 0
 sum (n ∷ ns) = n + sum ns
 
--- 0, 1, .. n - 1
+-- the numbers k, k + 1, .. k + n - 1
 unfoldable pub upFrom : ℕ → ℕ → List ℕ
 upFrom k zero = []
 upFrom k (suc n) = k ∷ upFrom (suc k) n

@@ -1,5 +1,5 @@
--- What a loop over a run has to say at each turn: for each list function of Lists, its value over the run from i to e by the element at i and the run from i + 1.
--- A law is stated over the list of what the elements stand for, `map f (slice i e l)`, and below it over the plain run. Assumes nothing.
+-- Facts for one turn of a loop over a run. For each list function of Lists: its value from i to e, by the element at i and the value from i + 1 to e. First over
+-- `map f (slice i e l)`, then over the plain run. Assumes nothing.
 use Prim.Native.Nat.{ℕ, zero, suc, _+_, _≤_, _<_}
 use mathlib.Core.Path.{_≡_, refl, sym, ap, _∙_}
 use mathlib.Core.Bool.{Bool, true, false, cond}
@@ -17,7 +17,7 @@ use Rattle.lemmas.specs.ListLaws.{and-left, and-right}
 use Rattle.lemmas.specs.Lists.{push, keep, any, all, find, chain}
 use Rattle.lemmas.specs.Slices.{put, put-cons, put-nil, run-cons, run-end, drop-view, view-end, length-view}
 
--- how two numbers stand
+-- two numbers are equal, or one is below the other
 pub compare : (x y : ℕ) → (x ≡ y) ⊎ ((x < y) ⊎ (y < x))
 compare x y = by (ltb x y) refl (ltb y x) refl
   where
@@ -27,12 +27,12 @@ compare x y = by (ltb x y) refl (ltb y x) refl
     by false e false q = inl (omega (arith, ltb-false x y e, ltb-false y x q))
 
 module _ {A : Type 0} where
-  -- how many stand before the first that passes; all of them, if none does
+  -- the number of items before the first that passes, or of all if none does
   unfoldable pub before-first : (A → Bool) → List A → ℕ
   before-first p [] = 0
   before-first p (x ∷ xs) = cond (p x) 0 (suc (before-first p xs))
 
-  -- at most all
+  -- it is at most the length
   pub before-first-le : (p : A → Bool) (xs : List A) → before-first p xs ≤ length xs
   unfolding before-first
   before-first-le p [] = omega arith
@@ -42,7 +42,7 @@ module _ {A : Type 0} where
       go h true = omega arith
       go h false = omega arith
 
-  -- those before it do not pass
+  -- the items before it do not pass
   pub first-before : (p : A → Bool) (xs : List A) (i : ℕ) (d : A) → i < before-first p xs → p (getD xs i d) ≡ false
   unfolding before-first
   first-before p [] i d h = absurd (omega arith)
@@ -53,7 +53,7 @@ module _ {A : Type 0} where
       go ih zero false e h = e
       go ih (suc i) false e h = ih i (omega arith)
 
-  -- and it does
+  -- the item there passes
   pub first-at : (p : A → Bool) (xs : List A) (d : A) → before-first p xs < length xs → p (getD xs (before-first p xs) d) ≡ true
   unfolding before-first
   first-at p [] d h = absurd (omega arith)
@@ -63,7 +63,7 @@ module _ {A : Type 0} where
       go ih true e h = e
       go ih false e h = ih (omega arith)
 
-  -- and no other place is such
+  -- no other place is like that
   pub first-is : (p : A → Bool) (xs : List A) (d : A) (r : ℕ) → r ≤ length xs → ((i : ℕ) → i < r → p (getD xs i d) ≡ false)
       → (r < length xs → p (getD xs r d) ≡ true) → r ≡ before-first p xs
   first-is p xs d r h fails passes = go (compare r (before-first p xs))
@@ -73,68 +73,75 @@ module _ {A : Type 0} where
       go (inr (inl l)) = clash (passes (omega (arith, before-first-le p xs))) (first-before p xs r d l)
       go (inr (inr l)) = clash (first-at p xs d (omega arith)) (fails (before-first p xs) l)
 
--- ---- by one list and its first element: for a loop over any other form of a list
+-- ---- a list by its first element x and the others: for loops over any form of a list
 module _ {A : Type 0} (p : A → Bool) (xs ys : List A) (x : A) (e : xs ≡ x ∷ ys) where
-  -- some pass
+  -- x passes: some item does
   pub any-here : p x ≡ true → any p xs ≡ true
   unfolding any
   any-here t = rw (e, t)
 
+  -- x does not: some of the others pass, or none
   pub any-later : p x ≡ false → any p xs ≡ any p ys
   unfolding any
   any-later t = rw (e, t)
 
-  -- all pass
+  -- x does not pass: not all do
   pub all-here : p x ≡ false → all p xs ≡ false
   unfolding all
   all-here t = rw (e, t)
 
+  -- x passes: all pass if the others do
   pub all-later : p x ≡ true → all p xs ≡ all p ys
   unfolding all
   all-later t = rw (e, t)
 
-  -- those that pass
+  -- x passes: it is kept
   pub keep-here : p x ≡ true → keep p xs ≡ x ∷ keep p ys
   unfolding keep push
   keep-here t = rw (e, t)
 
+  -- x does not: the others are kept as before
   pub keep-later : p x ≡ false → keep p xs ≡ keep p ys
   unfolding keep push
   keep-later t = rw (e, t)
 
-  -- the first that passes
+  -- x passes: it is the first that does
   pub find-here : p x ≡ true → find p xs ≡ some x
   unfolding find
   find-here t = rw (e, t)
 
+  -- x does not: the first is among the others
   pub find-later : p x ≡ false → find p xs ≡ find p ys
   unfolding find
   find-later t = rw (e, t)
 
-  -- how many stand before it
+  -- x passes: nothing is before it
   pub first-here : p x ≡ true → before-first p xs ≡ 0
   unfolding before-first
   first-here t = rw (e, t)
 
+  -- x does not: one more than among the others
   pub first-later : p x ≡ false → before-first p xs ≡ suc (before-first p ys)
   unfolding before-first
   first-later t = rw (e, t)
 
--- ---- over the list of what a run's elements stand for
+-- ---- over the mapped run
 module _ {A B : Type 0} (f : A → B) (p : B → Bool) (i e : ℕ) (l : List A) (d : A) where
   module _ (h : i < e) (k : e ≤ length l) where
+    -- the mapped run begins with the mapped element at i
     abbrev there : map f (slice i e l) ≡ f (getD l i d) ∷ map f (slice (i + 1) e l)
     there = drop-view f i e l d h k
 
-    -- those that pass
+    -- the element at i is kept
     pub keep-map-kept : p (f (getD l i d)) ≡ true → keep p (map f (slice i e l)) ≡ f (getD l i d) ∷ keep p (map f (slice (i + 1) e l))
     keep-map-kept t = keep-here p (map f (slice i e l)) (map f (slice (i + 1) e l)) (f (getD l i d)) there t
 
+    -- the element at i is not kept
     pub keep-map-passed : p (f (getD l i d)) ≡ false → keep p (map f (slice i e l)) ≡ keep p (map f (slice (i + 1) e l))
     keep-map-passed t = keep-later p (map f (slice i e l)) (map f (slice (i + 1) e l)) (f (getD l i d)) there t
 
   module _ (h : i ≤ e) (k : e ≤ i) where
-    -- nothing is left
+    -- nothing is left to keep
     pub keep-map-ended : keep p (map f (slice i e l)) ≡ []
     unfolding keep
     keep-map-ended = rw (run-end i e l h k)
@@ -142,87 +149,99 @@ module _ {A B : Type 0} (f : A → B) (p : B → Bool) (i e : ℕ) (l : List A) 
 -- ---- over the plain run
 module _ {A : Type 0} (p : A → Bool) (i e : ℕ) (l : List A) (d : A) where
   module _ (h : i < e) (k : e ≤ length l) where
-    -- some pass
+    -- the element at i passes: some do
     pub any-found : p (getD l i d) ≡ true → any p (slice i e l) ≡ true
     any-found t = any-here p (slice i e l) (slice (i + 1) e l) (getD l i d) (run-cons i e l d h k) t
 
+    -- it does not: the answer is that of the rest
     pub any-passed : p (getD l i d) ≡ false → any p (slice i e l) ≡ any p (slice (i + 1) e l)
     any-passed t = any-later p (slice i e l) (slice (i + 1) e l) (getD l i d) (run-cons i e l d h k) t
 
-    -- all pass
+    -- the element at i does not pass: not all do
     pub all-found : p (getD l i d) ≡ false → all p (slice i e l) ≡ false
     all-found t = all-here p (slice i e l) (slice (i + 1) e l) (getD l i d) (run-cons i e l d h k) t
 
+    -- it passes: the answer is that of the rest
     pub all-passed : p (getD l i d) ≡ true → all p (slice i e l) ≡ all p (slice (i + 1) e l)
     all-passed t = all-later p (slice i e l) (slice (i + 1) e l) (getD l i d) (run-cons i e l d h k) t
 
-    -- those that pass
+    -- the element at i passes and is kept
     pub keep-kept : p (getD l i d) ≡ true → keep p (slice i e l) ≡ getD l i d ∷ keep p (slice (i + 1) e l)
     keep-kept t = keep-here p (slice i e l) (slice (i + 1) e l) (getD l i d) (run-cons i e l d h k) t
 
+    -- it does not and is left out
     pub keep-passed : p (getD l i d) ≡ false → keep p (slice i e l) ≡ keep p (slice (i + 1) e l)
     keep-passed t = keep-later p (slice i e l) (slice (i + 1) e l) (getD l i d) (run-cons i e l d h k) t
 
-    -- how many stand before it
+    -- the element at i passes: nothing is before it
     pub first-found : p (getD l i d) ≡ true → before-first p (slice i e l) ≡ 0
     first-found t = first-here p (slice i e l) (slice (i + 1) e l) (getD l i d) (run-cons i e l d h k) t
 
+    -- it does not: one more than in the rest
     pub first-passed : p (getD l i d) ≡ false → before-first p (slice i e l) ≡ suc (before-first p (slice (i + 1) e l))
     first-passed t = first-later p (slice i e l) (slice (i + 1) e l) (getD l i d) (run-cons i e l d h k) t
 
   module _ (h : i ≤ e) (k : e ≤ i) where
-    -- nothing is left
+    -- nothing is left: none passes
     pub any-ended : any p (slice i e l) ≡ false
     unfolding any
     any-ended = rw (run-end i e l h k)
 
+    -- nothing is left to keep
     pub keep-ended : keep p (slice i e l) ≡ []
     unfolding keep
     keep-ended = rw (run-end i e l h k)
 
+    -- nothing is left to count
     pub first-ended : before-first p (slice i e l) ≡ 0
     unfolding before-first
     first-ended = rw (run-end i e l h k)
 
--- ---- a loop that lays down those that pass, one after another, from place n of out on
+-- ---- a loop that writes the items that pass, one after another, from place n of out on
 module _ {A : Type 0} (p : A → Bool) (i e : ℕ) (l : List A) (d : A) (out : List A) (n : ℕ) where
+  -- the item at i passes and is written
   pub laid-kept : i < e → e ≤ length l → n < length out → p (getD l i d) ≡ true
       → put (set out n (getD l i d)) (n + 1) (keep p (slice (i + 1) e l)) ≡ put out n (keep p (slice i e l))
   laid-kept h k g t = put-cons out n (getD l i d) (keep p (slice (i + 1) e l)) g ∙ ap (put out n) (sym (keep-kept p i e l d h k t))
 
+  -- it does not and is left out
   pub laid-passed : i < e → e ≤ length l → p (getD l i d) ≡ false → put out n (keep p (slice (i + 1) e l)) ≡ put out n (keep p (slice i e l))
   laid-passed h k t = ap (put out n) (sym (keep-passed p i e l d h k t))
 
+  -- nothing is left to write
   pub laid-ended : i ≤ e → e ≤ i → put out n (keep p (slice i e l)) ≡ out
   laid-ended h k = ap (put out n) (keep-ended p i e l d h k) ∙ put-nil out n
 
--- ---- a loop that lays down what the items of a run stand for, each at its place
+-- ---- a loop that writes the mapped items of a run, each at its own place
 module _ {A B : Type 0} (f : A → B) (i e : ℕ) (l : List A) (out : List B) where
+  -- the item at i is written
   pub view-laid : (d : A) → i < e → e ≤ length l → i < length out → put (set out i (f (getD l i d))) (i + 1) (map f (slice (i + 1) e l)) ≡ put out i (map f (slice i e l))
   view-laid d h k g = put-cons out i (f (getD l i d)) (map f (slice (i + 1) e l)) g ∙ ap (put out i) (sym (drop-view f i e l d h k))
 
+  -- nothing is left to write
   pub view-all-laid : i ≤ e → e ≤ i → put out i (map f (slice i e l)) ≡ out
   view-all-laid h k = ap (put out i) (view-end f i e l h k) ∙ put-nil out i
 
 -- ---- neighbours
 module _ {A : Type 0} (r : A → A → Bool) (xs ys : List A) (x y : A) (e : xs ≡ x ∷ y ∷ ys) where
-  -- a pair that does not pass, and one that does
+  -- the first pair does not stand in r: the list does not
   pub chain-here : r x y ≡ false → chain r xs ≡ false
   unfolding chain
   chain-here t = rw (e, t)
 
+  -- it does: the answer is that of the rest
   pub chain-later : r x y ≡ true → chain r xs ≡ chain r (y ∷ ys)
   unfolding chain
   chain-later t = rw (e, t)
 
--- no pair is left
+-- fewer than two items: there is no pair
 pub chain-short : {A : Type 0} (r : A → A → Bool) (xs : List A) → length xs ≤ 1 → chain r xs ≡ true
 unfolding chain
 chain-short r [] h = refl
 chain-short r (x ∷ []) h = refl
 chain-short r (x ∷ y ∷ ys) h = absurd (omega arith)
 
--- by places
+-- the items at i and i + 1 stand in r
 pub chain-at : {A : Type 0} (r : A → A → Bool) (xs : List A) (i : ℕ) (d : A) → chain r xs ≡ true → i + 1 < length xs → r (getD xs i d) (getD xs (i + 1) d) ≡ true
 unfolding chain
 chain-at {A} r xs i d c h = rw add-one (go xs i c (omega arith))
@@ -235,20 +254,22 @@ chain-at {A} r xs i d c h = rw add-one (go xs i c (omega arith))
 
 module _ {A B : Type 0} (f : A → B) (r : B → B → Bool) (i e : ℕ) (l : List A) (d : A) where
   module _ (h : i + 1 < e) (k : e ≤ length l) where
+    -- the mapped run begins with the mapped elements at i and i + 1
     two : map f (slice i e l) ≡ f (getD l i d) ∷ f (getD l (i + 1) d) ∷ map f (slice (i + 1 + 1) e l)
     two =
         drop-view f i e l d (omega arith) k ∙ ap (λ (z : List B). f (getD l i d) ∷ z) (drop-view f (i + 1) e l d h k)
 
-    -- the pair at i and i + 1 does not pass, or does
+    -- the pair at i and i + 1 fails: the list does
     pub chain-map-broken : r (f (getD l i d)) (f (getD l (i + 1) d)) ≡ false → chain r (map f (slice i e l)) ≡ false
     chain-map-broken t = chain-here r (map f (slice i e l)) (map f (slice (i + 1 + 1) e l)) (f (getD l i d)) (f (getD l (i + 1) d)) two t
 
+    -- it stands in r: the answer is that of the rest
     pub chain-map-goes-on : r (f (getD l i d)) (f (getD l (i + 1) d)) ≡ true → chain r (map f (slice i e l)) ≡ chain r (map f (slice (i + 1) e l))
     chain-map-goes-on t =
         chain-later r (map f (slice i e l)) (map f (slice (i + 1 + 1) e l)) (f (getD l i d)) (f (getD l (i + 1) d)) two t
         ∙ ap (chain r) (sym (drop-view f (i + 1) e l d h k))
 
-  -- at the last element, or past it
+  -- no pair is left from i on
   pub chain-map-ended : e ≤ i + 1 → e ≤ length l → chain r (map f (slice i e l)) ≡ true
   chain-map-ended h k =
       chain-short r (map f (slice i e l)) (omega (arith, length-view f i e l k))

@@ -1,4 +1,4 @@
--- Runs of a list by place: a run laid over a list, a list cut into parts, an element opened into a part, views of a run. Over the element type. Assumes nothing.
+-- Runs of a list by place: a run written over a list, a list cut into parts, an element inserted into a part, mapped runs. For any element type. Assumes nothing.
 use Prim.Native.Nat.{ℕ, zero, suc, _+_, _-_, _≤_, _<_, min, zero-le}
 use mathlib.Core.Path.{_≡_, refl, sym, ap, _∙_}
 use mathlib.Core.Bool.{Bool, true, false}
@@ -13,15 +13,15 @@ use lib.Seq.{take-all, take-length, slice, slice-cons, slice-empty, take-suc-set
 use Rattle.lemmas.specs.Lists.{join, sum}
 
 module _ {A : Type 0} where
-  -- d with s laid over it from place at on
+  -- d with s written over it from place at on
   unfoldable pub put : List A → ℕ → List A → List A
   put d at s = take at d ++ (s ++ drop (at + length s) d)
 
-  -- d with x put in at place at, and what stood from there up to end one place on
+  -- d with x inserted at place at. The elements from there up to end move one place on
   unfoldable pub opened : List A → ℕ → ℕ → A → List A
   opened d at end x = take at d ++ (x ∷ (slice at end d ++ drop (suc end) d))
 
-  -- a list cut into parts of the given lengths
+  -- l cut into parts of the given lengths
   unfoldable pub parts : List A → List ℕ → List (List A)
   parts l [] = []
   parts l (c ∷ cs) = take c l ∷ parts (drop c l) cs
@@ -33,15 +33,15 @@ module _ {A : Type 0} where
   pub run-cons : (i e : ℕ) (l : List A) (d : A) → i < e → e ≤ length l → slice i e l ≡ getD l i d ∷ slice (i + 1) e l
   run-cons i e l d h k = rw add-one (slice-cons i e l d h k)
 
-  -- a run that has ended
+  -- a run that has ended is empty
   pub run-end : (i e : ℕ) (l : List A) → i ≤ e → e ≤ i → slice i e l ≡ []
   run-end i e l h k = rw (le-antisymm h k) (slice-empty e l)
 
-  -- a run whose start is past its end
+  -- a run whose start is past its end is empty
   pub run-past : (i e : ℕ) (l : List A) → e ≤ i → slice i e l ≡ []
   run-past i e l h = let n : length (take e l) ≤ i = omega (arith, length-take e l) in drop-of-length-le (take e l) n
 
-  -- a run up to a place beyond the list ends where the list does
+  -- a run whose end is beyond the list ends where the list does
   pub run-within : (i e n : ℕ) (l : List A) → length l ≡ n → slice i (min e n) l ≡ slice i e l
   run-within i e n l q = go (leb e n) refl
     where
@@ -51,29 +51,29 @@ module _ {A : Type 0} where
           let m : min e n ≡ length l = omega (arith, leb-false e n t) in
           rw (m, take-length l, take-all e l (omega (arith, leb-false e n t)))
 
-  -- what is left of a list begins with the element at i
+  -- the rest of a list from i on begins with the element at i
   pub rest-cons : (l : List A) (i : ℕ) (d : A) → i < length l → drop i l ≡ getD l i d ∷ drop (i + 1) l
   rest-cons l i d h = rw add-one (drop-cons l i d h)
 
-  -- the same, where the next place is known by an equation
+  -- the same, with the next place given by an equation
   pub drop-next : (l : List A) (j i : ℕ) (d : A) → suc j ≡ i → j < length l → drop j l ≡ getD l j d ∷ drop i l
   drop-next l j i d e h = rw (← e) (drop-cons l j d h)
 
-  -- the run up to the list's end is what is left of it
+  -- the run up to the list's end is the rest of the list
   pub run-rest : (i : ℕ) (l : List A) → slice i (length l) l ≡ drop i l
   run-rest i l = ap (drop i) (take-length l)
 
-  -- a run is as long as its places say
+  -- a run's start plus its length is its end
   pub length-run : (from e : ℕ) (l : List A) → from ≤ e → e ≤ length l → from + length (slice from e l) ≡ e
   length-run from e l h k = rw (length-slice from e l k) (omega arith)
 
-  -- the first c from a place on, as a run
+  -- c elements from a place on, as a run
   pub take-drop : (from c : ℕ) (l : List A) → take c (drop from l) ≡ slice from (from + c) l
   take-drop zero c l = rw zero-add
   take-drop (suc from) c [] = rw suc-add (take-nil c)
   take-drop (suc from) c (x ∷ l) = rw suc-add (take-drop from c l)
 
-  -- a run between two others
+  -- the run between two other parts
   pub slice-mid : (a r b : List A) → slice (length a) (length a + length r) (a ++ (r ++ b)) ≡ r
   slice-mid a r b = rw (← append-assoc a r b, ← length-append a r, take-append-seam (a ++ r) b, drop-append-seam a r)
 
@@ -81,11 +81,11 @@ module _ {A : Type 0} where
   pub at-run : (i e : ℕ) (l : List A) (k : ℕ) (d : A) → i + k < e → getD (slice i e l) k d ≡ getD l (i + k) d
   at-run i e l k d h = getD-drop i (take e l) k d ∙ getD-take e l (i + k) d h
 
-  -- an element that a front part has is the whole's
+  -- an element of a front part is that of the whole
   pub in-front : (n : ℕ) (l : List A) (i : ℕ) (d : A) → i < length (take n l) → getD (take n l) i d ≡ getD l i d
   in-front n l i d h = getD-take n l i d (omega (arith, length-take n l))
 
-  -- a run from i to m, and on from m to e
+  -- the run from i to e is the run from i to m and the one from m to e
   pub run-join : (i m e : ℕ) (l : List A) → i ≤ m → m ≤ e → e ≤ length l → slice i e l ≡ slice i m l ++ slice m e l
   run-join i m e l h k g =
       let long : i ≤ length (take m (take e l)) = omega (arith, length-take-le m (take e l) (omega (arith, length-take-le e l g))) in
@@ -95,7 +95,7 @@ module _ {A : Type 0} where
 
   -- ---- a run moved one place up
 
-  -- a turn: what the loop will have made is the same before and after
+  -- a turn: what the loop will have made stays the same
   pub shift-turn : (d : List A) (k e : ℕ) (x z : A) → k < e → e < length d → opened (set d k x) (k + 1) e (getD d k z) ≡ opened d k e x
   unfolding opened
   shift-turn d k e x z h l =
@@ -109,21 +109,21 @@ module _ {A : Type 0} where
   unfolding opened
   shift-end d k e x h g l = rw (run-end k e d h g, set-split d e x l, le-antisymm h g)
 
-  -- ---- a run laid over a list
+  -- ---- a run written over a list
 
-  -- one element laid down, and the rest after it
+  -- one element written, then the rest after it
   pub put-cons : (d : List A) (n : ℕ) (x : A) (s : List A) → n < length d → put (set d n x) (n + 1) s ≡ put d n (x ∷ s)
   unfolding put
   put-cons d n x s h =
       let lt : n < suc (n + length s) = omega arith in
       rw (add-one n, take-suc-set d n x h, suc-add n (length s), drop-set-lt (suc (n + length s)) d n x lt, append-snoc, add-suc n (length s))
 
-  -- nothing laid down
+  -- nothing written
   pub put-nil : (d : List A) (n : ℕ) → put d n [] ≡ d
   unfolding put
   put-nil d n = rw (add-zero n, take-append-drop n d)
 
-  -- what was laid down lies there
+  -- what was written is there
   pub slice-put : (d : List A) (at : ℕ) (s : List A) → at ≤ length d → slice at (at + length s) (put d at s) ≡ s
   unfolding put
   slice-put d at s h =
@@ -131,12 +131,12 @@ module _ {A : Type 0} where
       let k : length (take at d ++ s) ≡ at + length s = length-append (take at d) s ∙ ap (λ (n : ℕ). n + length s) l in
       rw (← append-assoc (take at d) s (drop (at + length s) d), take-at (take at d ++ s) (drop (at + length s) d) (at + length s) k, drop-at (take at d) s at l)
 
-  -- what stands before it is as it was
+  -- what is before it stays
   pub take-put : (d : List A) (at : ℕ) (s : List A) → at ≤ length d → take at (put d at s) ≡ take at d
   unfolding put
   take-put d at s h = take-at (take at d) (s ++ drop (at + length s) d) at (length-take-le at d h)
 
-  -- laid over a second time, with no less
+  -- written a second time with no fewer: the first time is overwritten
   pub put-put : (d : List A) (at : ℕ) (s t : List A) → at ≤ length d → length s ≤ length t → put (put d at s) at t ≡ put d at t
   unfolding put
   put-put d at s t h k =
@@ -151,14 +151,14 @@ module _ {A : Type 0} where
       ∙ drop-drop (length t - length s) (at + length s) d ∙ ap (λ (n : ℕ). drop n d) (f ∙ sym e)) in
       rw (front, back)
 
-  -- laid over keeps the length
+  -- writing keeps the length
   pub length-put : (d : List A) (at : ℕ) (s : List A) → at + length s ≤ length d → length (put d at s) ≡ length d
   unfolding put
   length-put d at s h =
       let l : length (take at d) ≡ at = length-take-le at d (omega arith) in
       rw (length-append (take at d) (s ++ drop (at + length s) d), length-append s (drop (at + length s) d), length-drop (at + length s) d, l) (omega arith)
 
-  -- two runs laid down one after the other
+  -- two runs written one after the other are both joined written at once
   pub put-append : (d : List A) (at : ℕ) (s x : List A) → at + length s ≤ length d → put (put d at s) (at + length s) x ≡ put d at (s ++ x)
   unfolding put
   put-append d at s x h =
@@ -172,17 +172,17 @@ module _ {A : Type 0} where
       let e : at + length (s ++ x) ≡ at + length s + length x = omega (arith, length-append s x) in
       rw (front, back, e) (simp append-assoc)
 
-  -- laid over the whole
+  -- a list of equal length replaces the whole
   pub put-whole : (d s : List A) → length s ≡ length d → put d 0 s ≡ s
   unfolding put
   put-whole d s h = rw (zero-add (length s), h, drop-length d, append-nil s)
 
-  -- laid over the front
+  -- a list written over the front
   pub put-front : (d s : List A) → put d 0 s ≡ s ++ drop (length s) d
   unfolding put
   put-front d s = rw (zero-add (length s))
 
-  -- one element repeated, but for the first n
+  -- one element repeated, without the first n
   pub drop-replicate : (n m : ℕ) (d : A) → drop n (replicate m d) ≡ replicate (m - n) d
   drop-replicate zero m d = let e : m - 0 ≡ m = omega arith in rw e
   drop-replicate (suc n) zero d = let e : 0 - suc n ≡ 0 = omega arith in rw e
@@ -190,7 +190,7 @@ module _ {A : Type 0} where
 
   -- ---- parts
 
-  -- the parts from one on
+  -- the parts from place k on begin with the run of part k
   pub parts-turn : (l : List A) (cs : List ℕ) (k from : ℕ) → k < length cs
       → parts (drop from l) (drop k cs) ≡ slice from (from + getD cs k 0) l ∷ parts (drop (from + getD cs k 0) l) (drop (k + 1) cs)
   unfolding parts
@@ -201,25 +201,25 @@ module _ {A : Type 0} where
   unfolding parts
   parts-over l cs k from h = rw (drop-of-length-le cs h)
 
-  -- one part for each length
+  -- there is one part for each length
   pub length-parts : (l : List A) (cs : List ℕ) → length (parts l cs) ≡ length cs
   unfolding parts
   length-parts l [] = refl
   length-parts l (c ∷ cs) = ap suc (length-parts (drop c l) cs)
 
-  -- lists joined, and cut again
+  -- lists joined and cut again
   pub parts-join : (ls : List (List A)) (z : List A) → parts (join ls ++ z) (map length ls) ≡ ls
   unfolding parts join
   parts-join [] z = refl
   parts-join (l ∷ ls) z = rw (append-assoc l (join ls) z, take-append-seam l (join ls ++ z), drop-append-seam l (join ls ++ z), parts-join ls z)
 
-  -- a list cut, and joined again
+  -- a list cut and joined again
   pub join-parts : (l : List A) (cs : List ℕ) → sum cs ≤ length l → join (parts l cs) ≡ take (sum cs) l
   unfolding parts join sum
   join-parts l [] h = refl
   join-parts l (c ∷ cs) h = rw (take-add c (sum cs) l, join-parts (drop c l) cs (omega (arith, length-drop c l)))
 
-  -- each part has its length
+  -- each part has its given length
   pub lengths-parts : (l : List A) (cs : List ℕ) → sum cs ≤ length l → map length (parts l cs) ≡ cs
   unfolding parts sum
   lengths-parts l [] h = refl
@@ -227,7 +227,7 @@ module _ {A : Type 0} where
       let e : length (take c l) ≡ c = length-take-le c l (omega arith) in
       rw (e, lengths-parts (drop c l) cs (omega (arith, length-drop c l)))
 
-  -- the lengths together
+  -- the sum of the lengths is the length of the join
   pub sum-lengths : (ls : List (List A)) → sum (map length ls) ≡ length (join ls)
   unfolding join sum
   sum-lengths [] = refl
@@ -239,7 +239,7 @@ module _ {A : Type 0} where
   join-append [] ys = refl
   join-append (x ∷ xs) ys = ap (λ (z : List A). x ++ z) (join-append xs ys) ∙ sym (append-assoc x (join xs) (join ys))
 
-  -- a part between those before it and those after it
+  -- a part, those before it and those after it
   pub join-split : (ls : List (List A)) (k : ℕ) → k < length ls → join ls ≡ join (take k ls) ++ (getD ls k [] ++ join (drop (suc k) ls))
   unfolding join
   join-split [] k h = absurd (not-suc-le-zero h)
@@ -247,7 +247,7 @@ module _ {A : Type 0} where
   join-split (l ∷ ls) (suc k) h =
       ap (λ (z : List A). l ++ z) (join-split ls k (le-of-suc-le-suc h)) ∙ sym (append-assoc l (join (take k ls)) (getD ls k [] ++ join (drop (suc k) ls)))
 
-  -- one part replaced
+  -- the join with one part replaced
   pub join-set : (ls : List (List A)) (k : ℕ) (r : List A) → k < length ls → join (set ls k r) ≡ join (take k ls) ++ (r ++ join (drop (suc k) ls))
   unfolding join
   join-set [] k r h = absurd (not-suc-le-zero h)
@@ -255,14 +255,14 @@ module _ {A : Type 0} where
   join-set (l ∷ ls) (suc k) r h =
       ap (λ (z : List A). l ++ z) (join-set ls k r (le-of-suc-le-suc h)) ∙ sym (append-assoc l (join (take k ls)) (r ++ join (drop (suc k) ls)))
 
-  -- where a part starts
+  -- a part starts at the sum of the lengths before it
   pub part-start : (ls : List (List A)) (k : ℕ) → sum (take k (map length ls)) ≡ length (join (take k ls))
   unfolding join sum
   part-start ls zero = refl
   part-start [] (suc k) = refl
   part-start (l ∷ ls) (suc k) = omega (arith, length-append l (join (take k ls)), part-start ls k)
 
-  -- the run of a part
+  -- a part is the run from its start on
   pub part-run : (ls : List (List A)) (z : List A) (k : ℕ) → k < length ls
       → slice (sum (take k (map length ls))) (sum (take k (map length ls)) + getD (map length ls) k 0) (join ls ++ z) ≡ getD ls k []
   part-run ls z k h =
@@ -274,7 +274,7 @@ module _ {A : Type 0} where
       (ap (λ (s : List A). slice (length a) (length a + length r) (s ++ z)) (join-split ls k h)
       ∙ ap (slice (length a) (length a + length r)) (simp append-assoc) ∙ slice-mid a r (b ++ z))
 
-  -- the run of a part, by the cut
+  -- the same by the given lengths
   pub part-at : (l : List A) (cs : List ℕ) (k : ℕ) → k < length cs → getD (parts l cs) k [] ≡ slice (sum (take k cs)) (sum (take k cs) + getD cs k 0) l
   unfolding parts sum
   part-at l [] k h = absurd (not-suc-le-zero h)
@@ -286,7 +286,7 @@ module _ {A : Type 0} where
       ∙ ap (take (getD cs k 0)) (drop-drop n c l)
       ∙ take-drop (c + n) (getD cs k 0) l
 
-  -- an element opened into a part: all that stands after it is one place on
+  -- an element inserted into a part: everything after it moves one place on
   open-mid : (a r b z : List A) (m : ℕ) (x : A) → m ≤ length r
       → opened ((a ++ (r ++ b)) ++ z) (length a + m) (length (a ++ (r ++ b))) x ≡ (a ++ ((take m r ++ (x ∷ drop m r)) ++ b)) ++ drop 1 z
   unfolding opened
@@ -300,11 +300,11 @@ module _ {A : Type 0} where
       rw (← add-one (length w)) (drop-append-add w z 1) in
       rw (front, mid, back) (simp append-assoc)
 
-  -- a list with x at place m of its element k
+  -- the lists with x inserted at place m of list k
   unfoldable pub openPart : List (List A) → ℕ → ℕ → A → List (List A)
   openPart ls k m x = set ls k (take m (getD ls k []) ++ (x ∷ drop m (getD ls k [])))
 
-  -- an element opened into a part, in the join
+  -- an element inserted into a part is inserted into the join
   pub open-part : (ls : List (List A)) (z : List A) (k m : ℕ) (x : A) → k < length ls → m ≤ length (getD ls k [])
       → opened (join ls ++ z) (sum (take k (map length ls)) + m) (length (join ls)) x ≡ join (openPart ls k m x) ++ drop 1 z
   unfolding openPart
@@ -317,17 +317,18 @@ module _ {A : Type 0} where
       ∙ open-mid a r b z m x g
       ∙ ap (λ (s : List A). s ++ drop 1 z) (sym (join-set ls k (take m r ++ (x ∷ drop m r)) h)))
 
+  -- inserting makes a list one longer
   open-length : (r : List A) (m : ℕ) (x : A) → length (take m r ++ (x ∷ drop m r)) ≡ length r + 1
   open-length r m x = omega (arith, length-append (take m r) (x ∷ drop m r), length-append (take m r) (drop m r), ap length (take-append-drop m r))
 
-  -- that part is one longer
+  -- only that part is one longer
   pub open-sizes : (ls : List (List A)) (k m : ℕ) (x : A) → map length (openPart ls k m x) ≡ set (map length ls) k (getD (map length ls) k 0 + 1)
   unfolding openPart
   open-sizes [] k m x = refl
   open-sizes (l ∷ ls) zero m x = ap (λ (n : ℕ). n ∷ map length ls) (open-length l m x)
   open-sizes (l ∷ ls) (suc k) m x = ap (λ (ns : List ℕ). length l ∷ ns) (open-sizes ls k m x)
 
-  -- and so is the join
+  -- the join is one longer
   pub open-total : (ls : List (List A)) (k m : ℕ) (x : A) → k < length ls → length (join (openPart ls k m x)) ≡ length (join ls) + 1
   unfolding openPart join
   open-total [] k m x h = absurd (not-suc-le-zero h)
@@ -336,18 +337,18 @@ module _ {A : Type 0} where
   open-total (l ∷ ls) (suc k) m x h =
       omega (arith, length-append l (join (openPart ls k m x)), length-append l (join ls), open-total ls k m x (le-of-suc-le-suc h))
 
-  -- ---- the same in an array whose front holds the parts
+  -- ---- the same in an array that holds the parts in its front
 
-  -- the run of a part
+  -- a part is the run from its start on
   pub put-part-run : (v : List A) (ls : List (List A)) (k : ℕ) → k < length ls
       → slice (sum (take k (map length ls))) (sum (take k (map length ls)) + getD (map length ls) k 0) (put v 0 (join ls)) ≡ getD ls k []
   put-part-run v ls k h = rw (put-front v (join ls)) (part-run ls (drop (length (join ls)) v) k h)
 
-  -- the parts cut out again
+  -- cutting gives the parts again
   pub put-parts : (v : List A) (ls : List (List A)) → parts (put v 0 (join ls)) (map length ls) ≡ ls
   put-parts v ls = rw (put-front v (join ls)) (parts-join ls (drop (length (join ls)) v))
 
-  -- an element opened into a part
+  -- an element inserted into a part
   pub put-open-part : (v : List A) (ls : List (List A)) (k m : ℕ) (x : A) → k < length ls → m ≤ length (getD ls k [])
       → opened (put v 0 (join ls)) (sum (take k (map length ls)) + m) (length (join ls)) x ≡ put v 0 (join (openPart ls k m x))
   put-open-part v ls k m x h g =
@@ -356,43 +357,43 @@ module _ {A : Type 0} where
       (open-part ls (drop n v) k m x h g
       ∙ ap (λ (z : List A). join (openPart ls k m x) ++ z) (drop-drop 1 n v ∙ ap (λ (j : ℕ). drop j v) (sym (open-total ls k m x h))))
 
-  -- ---- the same of one list in an array's front
+  -- ---- the same for one list in an array's front
 
   -- an element of it
   pub getD-put : (z s : List A) (k : ℕ) (d : A) → k < length s → getD (put z 0 s) k d ≡ getD s k d
   getD-put z s k d h = ap (λ (l : List A). getD l k d) (put-front z s) ∙ List·getD-append s (drop (length s) z) d k h
 
-  -- an element opened into it
+  -- an element inserted into it
   pub put-opened : (z s : List A) (m : ℕ) (x : A) → m ≤ length s → opened (put z 0 s) m (length s) x ≡ put z 0 (take m s ++ (x ∷ drop m s))
   unfolding join sum openPart
   put-opened z s m x h = simp (append-nil, zero-add) at (put-open-part z (s ∷ []) 0 m x (omega arith) h)
 
 -- ---- sums
 
--- one more to add
+-- one more number to add
 pub sum-turn : (cs : List ℕ) (k : ℕ) → k < length cs → sum (drop k cs) ≡ getD cs k 0 + sum (drop (k + 1) cs)
 unfolding sum
 sum-turn cs k h = rw (drop-cons cs k 0 h, add-one k)
 
--- nothing is left to add
+-- no number is left to add
 pub sum-over : (cs : List ℕ) (k : ℕ) → length cs ≤ k → sum (drop k cs) ≡ 0
 unfolding sum
 sum-over cs k h = rw (drop-of-length-le cs h)
 
--- the sum of two lists
+-- the sum of two lists joined
 pub sum-append : (a b : List ℕ) → sum (a ++ b) ≡ sum a + sum b
 unfolding sum
 sum-append [] b = omega arith
 sum-append (x ∷ a) b = omega (arith, sum-append a b)
 
--- a front sums to no more
+-- a front sums to no more than the whole
 pub sum-take : (n : ℕ) (l : List ℕ) → sum (take n l) ≤ sum l
 unfolding sum
 sum-take zero l = zero-le
 sum-take (suc n) [] = zero-le
 sum-take (suc n) (x ∷ l) = omega (arith, sum-take n l)
 
--- nor does it with the next element
+-- a front and the next element sum to no more than the whole
 pub sum-upto : (k : ℕ) (l : List ℕ) → sum (take k l) + getD l k 0 ≤ sum l
 unfolding sum
 sum-upto zero [] = zero-le
@@ -411,49 +412,51 @@ sum-next k l = rw add-one (go k l)
     go zero (x ∷ l) = omega arith
     go (suc k) (x ∷ l) = omega (arith, go k l)
 
--- ---- lists of what the elements stand for
+-- ---- mapped lists
 
 module _ {A B : Type 0} (f : A → B) where
-  -- the element at a place, whatever is read past the end
+  -- the element at a place of a mapped list, whatever is read past its end
   pub getD-map : (l : List A) (i : ℕ) (d : A) (z : B) → i < length l → getD (map f l) i z ≡ f (getD l i d)
   getD-map [] i d z h = absurd (not-suc-le-zero h)
   getD-map (x ∷ l) zero d z h = refl
   getD-map (x ∷ l) (suc i) d z h = getD-map l i d z (le-of-suc-le-suc h)
 
-  -- a front, what is left, and a run of what the elements stand for
+  -- the first n of a mapped list
   pub take-map : (n : ℕ) (l : List A) → take n (map f l) ≡ map f (take n l)
   take-map zero l = refl
   take-map (suc n) [] = refl
   take-map (suc n) (x ∷ l) = ap (λ (r : List B). f x ∷ r) (take-map n l)
 
+  -- the rest of a mapped list
   pub drop-map : (n : ℕ) (l : List A) → drop n (map f l) ≡ map f (drop n l)
   drop-map zero l = refl
   drop-map (suc n) [] = refl
   drop-map (suc n) (x ∷ l) = drop-map n l
 
+  -- a run of a mapped list
   pub slice-map : (i e : ℕ) (l : List A) → slice i e (map f l) ≡ map f (slice i e l)
   slice-map i e l = ap (drop i) (take-map e l) ∙ drop-map i (take e l)
 
   module _ (i e : ℕ) (l : List A) where
-    -- what is left of the view begins with the element that is read
+    -- a mapped run begins with the mapped element at i
     pub drop-view : (d : A) → i < e → e ≤ length l → map f (slice i e l) ≡ f (getD l i d) ∷ map f (slice (i + 1) e l)
     drop-view d h k = ap (map f) (run-cons i e l d h k)
 
-    -- nothing is left of the view
+    -- a mapped run that has ended is empty
     pub view-end : i ≤ e → e ≤ i → map f (slice i e l) ≡ []
     view-end h k = ap (map f) (run-end i e l h k)
 
-    -- a view is as long as its run
+    -- a mapped run is as long as the run
     pub length-view : e ≤ length l → length (map f (slice i e l)) ≡ e - i
     length-view k = length-map (slice i e l) f ∙ length-slice i e l k
 
-    -- the element at place k of the view
+    -- the element at place k of a mapped run
     pub at-view : (k : ℕ) (d : A) (z : B) → i + k < e → e ≤ length l → getD (map f (slice i e l)) k z ≡ f (getD l (i + k) d)
     at-view k d z h g =
         let n : k < length (slice i e l) = omega (arith, length-slice i e l g) in
         getD-map (slice i e l) k d z n ∙ ap f (at-run i e l k d h)
 
-  -- laid over, as what the elements stand for
+  -- writing over a list, mapped
   pub put-map : (d : List A) (at : ℕ) (s : List A) → map f (put d at s) ≡ put (map f d) at (map f s)
   unfolding put
   put-map d at s =
@@ -461,12 +464,12 @@ module _ {A B : Type 0} (f : A → B) where
       ∙ ap (λ (r : List B). map f (take at d) ++ r) (map-append f s (drop (at + length s) d))
       ∙ rw (take-map at d, drop-map (at + length (map f s)) d, length-map s f)
 
-  -- cut into parts, as what the elements stand for
+  -- cutting into parts, mapped
   pub parts-map : (l : List A) (cs : List ℕ) → parts (map f l) cs ≡ map (map f) (parts l cs)
   unfolding parts
   parts-map l [] = refl
   parts-map l (c ∷ cs) = rw (take-map c l, drop-map c l, parts-map (drop c l) cs)
 
--- for `search (needs, length-of-map)`: the length of a field that is an array of structs
+-- for `search (needs, length-of-map)`: gives the length of a field that is an array of structs
 pub length-of-map : (X Y : Type 0) (g : X → Y) (l : List X) (n : ℕ) → length (map g l) ≡ n → length l ≡ n
 length-of-map X Y g l n p = sym (length-map l g) ∙ p

@@ -1,1 +1,1 @@
-// Laws on lists, orders and numbers that every other crate cites: its substance is specs/.
+// Laws on lists, orders and numbers that the other crates cite. All of it is in specs/.

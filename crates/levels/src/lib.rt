@@ -1,23 +1,25 @@
 // Levels one after another in one array of file records, and whether they are well-formed.
 ghost use mathlib.Core.Path.{_≡_};
-ghost use Prim.Native.Nat.{_≤_, min};
+ghost use Prim.Native.Nat.{_+_, _≤_, min};
 ghost use lib.ListN.{take};
 ghost use Rattle.lemmas.specs.Lists.{sum};
+ghost use Rattle.model.specs.File.{levelCount, maxFiles};
 ghost use Rattle.records.specs.Record.{fileOf};
 ghost use Rattle.levels.specs.Levels.{follows, wellLevels, surveyOf, unarranged, tellsWell};
 use records::FileRecord;
 use records::Level;
+use records::Version;
 
-// The files of all levels together, or one more than there is room for where they are more than that.
-pub fn counted(counts: [usize; 7]) -> usize
-    ensures { λ r. ⌜ r ≡ min (sum counts) 257 ⌝ }
+// The number of files of all levels, or one more than the room if there are more. Internal.
+pub fn counted(counts: [usize; Level::COUNT]) -> usize
+    ensures { λ r. ⌜ r ≡ min (sum counts) (maxFiles + 1) ⌝ }
 {
     let mut sum: usize = 0;
     let mut i: usize = 0;
     while i < Level::COUNT {
         let c = counts[i];
-        if 256 - sum < c {
-            return 257;
+        if Version::ROOM - sum < c {
+            return Version::BEYOND;
         }
         sum += c;
         i += 1;
@@ -25,17 +27,21 @@ pub fn counted(counts: [usize; 7]) -> usize
     sum
 }
 
-// What one look at levels tells: the numbers of their files, zeros past them; the bytes of each level; how many files there are; whether all but the numbers is as document 01 has it.
+// The result of one look at levels.
 pub struct Surveyed {
-    pub numbers: [u64; 256],
-    pub bytes: [u64; 7],
+    // The file numbers, zeros past them.
+    pub numbers: [u64; Version::ROOM],
+    // The bytes of each level.
+    pub bytes: [u64; Level::COUNT],
+    // The number of files.
     pub total: usize,
+    // Whether the levels are as document 01 asks, except that a number may stand twice.
     pub arranged: bool,
 }
 
-// Where a level starts. For callers of this repository that know the counts to be within the room.
-pub fn start_of(counts: [usize; 7], level: usize) -> usize
-    requires { ⌜ (level ≤ 7) × (sum counts ≤ 256) ⌝ }
+// The place where a level starts. Internal. Requires: the level is at most the number of levels, and the counts are together within the room.
+pub fn start_of(counts: [usize; Level::COUNT], level: usize) -> usize
+    requires { ⌜ (level ≤ levelCount) × (sum counts ≤ maxFiles) ⌝ }
     ensures { λ r. ⌜ r ≡ sum (take level counts) ⌝ }
 {
     let mut start: usize = 0;
@@ -47,7 +53,7 @@ pub fn start_of(counts: [usize; 7], level: usize) -> usize
     start
 }
 
-// Whether a file may stand after another: at level 0 its smallest key is not before the other's, deeper the other ends strictly before it begins.
+// Whether g may be the next file after f: at level 0 its smallest key is not before f's, deeper f ends strictly before g begins.
 fn may_follow(level: usize, f: FileRecord, g: FileRecord) -> bool
     ensures { λ r. ⌜ r ≡ follows level (fileOf f) (fileOf g) ⌝ }
 {
@@ -60,29 +66,29 @@ fn may_follow(level: usize, f: FileRecord, g: FileRecord) -> bool
     keys::is_before(a, b)
 }
 
-// Nothing seen: no files, and that they are not arranged.
+// The survey of levels that are not arranged: no files, no bytes.
 fn nothing_seen() -> Surveyed
     ensures { λ r. ⌜ r ≡ unarranged ⌝ }
 {
     Surveyed {
-        numbers: [0u64; 256],
-        bytes: [0u64; 7],
+        numbers: [0u64; Version::ROOM],
+        bytes: [0u64; Level::COUNT],
         total: 0,
         arranged: false,
     }
 }
 
-// One look at levels: whether room, records, blank places and order are as document 01 has them, and the files' numbers and bytes if so. The array goes to no other function:
-// each would copy it.
-pub fn survey(files: [FileRecord; 256], counts: [usize; 7]) -> Surveyed
+// One look at levels: checks room, records, blank places and order, and collects the files' numbers and bytes. It passes the array to no other function, since each
+// call would copy it. Internal.
+pub fn survey(files: [FileRecord; Version::ROOM], counts: [usize; Level::COUNT]) -> Surveyed
     ensures { λ r. ⌜ (r ≡ surveyOf files counts) × (tellsWell r ≡ wellLevels files counts) ⌝ }
 {
     let n = counted(counts);
-    if 256 < n {
+    if Version::ROOM < n {
         return nothing_seen();
     }
-    let mut column = [0u64; 256];
-    let mut sums = [0u64; 7];
+    let mut column = [0u64; Version::ROOM];
+    let mut sums = [0u64; Level::COUNT];
     let mut i: usize = 0;
     let mut level: usize = 0;
     while level < Level::COUNT {
@@ -104,7 +110,7 @@ pub fn survey(files: [FileRecord; 256], counts: [usize; 7]) -> Surveyed
         sums[level] = bytes;
         level += 1;
     }
-    while i < 256 {
+    while i < Version::ROOM {
         if !records::is_blank(files[i]) {
             return nothing_seen();
         }
@@ -118,9 +124,9 @@ pub fn survey(files: [FileRecord; 256], counts: [usize; 7]) -> Surveyed
     }
 }
 
-// Whether surveyed levels are well-formed: arranged, and no number stands twice. For callers of this repository, whose survey is one of levels.
+// Whether surveyed levels are well-formed: arranged, and no number stands twice. Internal. Requires: the survey has no more files than the room.
 pub fn are_well_formed(v: Surveyed) -> bool
-    requires { ⌜ v .total ≤ 256 ⌝ }
+    requires { ⌜ v .total ≤ maxFiles ⌝ }
     ensures { λ r. ⌜ r ≡ tellsWell v ⌝ }
 {
     if !v.arranged {
@@ -128,5 +134,5 @@ pub fn are_well_formed(v: Surveyed) -> bool
     }
     let numbers = v.numbers;
     let n = v.total;
-    sorting::no_twice(&numbers[0..n])
+    sorting::all_distinct(&numbers[0..n])
 }

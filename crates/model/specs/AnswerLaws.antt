@@ -1,4 +1,4 @@
--- Laws of answers: a call gives its answer exactly if no refusal applies, and a refusal is the first that applies. Assumes nothing.
+-- Laws of answers: a call returns its result exactly if no refusal applies, and else the first refusal that applies. Assumes nothing.
 use Prim.Native.Nat.{ℕ, _≤_}
 use mathlib.Core.Path.{_≡_, refl, ap, _∙_}
 use mathlib.Core.Logic.{_⊎_, inl, inr}
@@ -16,12 +16,12 @@ use Rattle.model.specs.Range.{later}
 abbrev pub NoneApplies : List Refusal → Type 0
 NoneApplies rs = (r : Refusal) → In r rs → r .applies ≡ false
 
--- a list of refusals that gives an answer: the answer is the one meant, and no refusal applies
+-- a list of refusals that lets a result through: it is the one meant, and no refusal applies
 pub record Passed {A : Type 0} (rs : List Refusal) (a t : A) : Type 0 where
   pub answer : a ≡ t
   pub none-applies : NoneApplies rs
 
--- what a given answer says
+-- a result that is returned was let through
 pub firstOf-gives : {A : Type 0} (rs : List Refusal) (a t : A) → firstOf rs a ≡ gives t → Passed rs a t
 unfolding firstOf
 firstOf-gives [] a t e = record { answer = cc; none-applies = λ r m. absurd (not-nil m) }
@@ -35,19 +35,19 @@ firstOf-gives {A} (r ∷ rs) a t e = go (firstOf-gives rs a t) (r .applies) refl
     go ih true f = let z : true ≡ false = cc in clash refl z
     go ih false f = let h = ih (rw f at e) in record { answer = h .answer; none-applies = at h f }
 
--- and the other way: where none applies, the answer is given; so a call is accepted exactly if no refusal applies
+-- conversely, if none applies the result is returned. So a call is accepted exactly if no refusal applies
 pub firstOf-passes : {A : Type 0} (rs : List Refusal) (a : A) → NoneApplies rs → firstOf rs a ≡ gives a
 unfolding firstOf
 firstOf-passes [] a h = refl
 firstOf-passes (r ∷ rs) a h = let e = h r (here refl) in rw e (firstOf-passes rs a (λ q m. h q (there m)))
 
--- refusals none of which applies may as well not stand before others
+-- refusals that do not apply can be left out before others
 pub firstOf-after : {A : Type 0} (rs qs : List Refusal) (a : A) → NoneApplies rs → firstOf (rs ++ qs) a ≡ firstOf qs a
 unfolding firstOf
 firstOf-after [] qs a h = refl
 firstOf-after (r ∷ rs) qs a h = rw (h r (here refl)) (firstOf-after rs qs a (λ q m. h q (there m)))
 
--- a refusal is the first that applies
+-- the refusal with number n is the first of the list that applies
 pub record First (rs : List Refusal) (n : ℕ) : Type 0 where
   pub before : List Refusal
   pub it : Refusal
@@ -57,7 +57,7 @@ pub record First (rs : List Refusal) (n : ℕ) : Type 0 where
   pub applies : it .applies ≡ true
   pub code : it .code ≡ n
 
--- what a refusal says
+-- a call that is refused is refused by the first refusal that applies
 pub firstOf-refuses : {A : Type 0} (rs : List Refusal) (a : A) (n : ℕ) → firstOf rs a ≡ refused n → First rs n
 unfolding firstOf
 firstOf-refuses [] a n e = let z : true ≡ false = cc in clash refl z
@@ -79,17 +79,17 @@ firstOf-refuses (r ∷ rs) a n e = go (firstOf-refuses rs a n) (r .applies) refl
         none-of k q (here i) = ap (λ (x : Refusal). x .applies) i ∙ f
         none-of k q (there m) = k .none-before q m
 
--- one more refusal: it does not apply, and none of the others does
+-- one refusal more that does not apply
 pub none-cons : (b : Bool) (n : ℕ) (rs : List Refusal) → b ≡ false → NoneApplies rs → NoneApplies ((b ⇒ n) ∷ rs)
 unfolding _⇒_
 none-cons b n rs e h r (here i) = ap (λ (x : Refusal). x .applies) i ∙ e
 none-cons b n rs e h r (there m) = h r m
 
--- no refusal at all
+-- an empty list has no refusal that applies
 pub none-nil : NoneApplies []
 none-nil r m = absurd (not-nil m)
 
--- none of two lists applies
+-- none of two lists joined applies
 pub none-both : (rs qs : List Refusal) → NoneApplies rs → NoneApplies qs → NoneApplies (rs ++ qs)
 none-both rs qs h k r m = go (append-cases rs m)
   where
@@ -97,7 +97,7 @@ none-both rs qs h k r m = go (append-cases rs m)
     go (inl i) = h r i
     go (inr i) = k r i
 
--- the same refusals before an answer in another form
+-- applying f to the result, before or after the refusals
 pub firstOf-on : {A B : Type 0} (f : A → B) (rs : List Refusal) (a : A) → firstOf rs (f a) ≡ onAnswer f (firstOf rs a)
 unfolding firstOf onAnswer
 firstOf-on f [] a = refl
@@ -107,17 +107,20 @@ firstOf-on f (r ∷ rs) a = go (firstOf-on f rs a) (r .applies)
     go ih true = refl
     go ih false = ih
 
--- ---- lent output: it keeps its length; what lies past the answer is as it was, on a refusal all of it
+-- ---- lent output: it keeps its length, and what lies past the result stays. After a refusal all of it stays
 module _ {A : Type 0} where
+  -- it keeps its length
   pub lent-length : (o : Answer (List A)) (out : List A) → ((xs : List A) → o ≡ gives xs → length xs ≤ length out) → length (lent o out) ≡ length out
   unfolding lent
   lent-length (gives xs) out h = let i = h xs refl in omega (arith, length-append xs (drop (length xs) out), length-drop (length xs) out)
   lent-length (refused n) out h = refl
 
+  -- what lies past the result stays
   pub lent-past : (xs out : List A) → drop (length xs) (lent (gives xs) out) ≡ drop (length xs) out
   unfolding lent
   lent-past xs out = drop-append-seam xs (drop (length xs) out)
 
+  -- its front is the result
   pub lent-answer : (xs out : List A) → take (length xs) (lent (gives xs) out) ≡ xs
   unfolding lent
   lent-answer xs out = take-append-seam xs (drop (length xs) out)

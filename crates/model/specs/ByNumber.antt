@@ -1,4 +1,4 @@
--- A level's files by rising number: the list is determined by its members. Assumes nothing.
+-- A level's files by rising number: the files determine the list. Assumes nothing.
 use Prim.Native.Nat.{ℕ, _≤_}
 use mathlib.Core.Path.{_≡_, refl, ap, sym, _∙_, subst}
 use mathlib.Core.Logic.{_↔_}
@@ -13,16 +13,16 @@ use Rattle.lemmas.specs.ListLaws.{and-left, and-right, tally, sort-in, sort-tal
 use Rattle.model.specs.File.{File, numbers}
 use Rattle.model.specs.Snapshot.{byNumber}
 
--- files by number: an order
+-- the order of files by number is a strict weak order
 byNumber-order : StrictWeak byNumber
 unfolding byNumber
 byNumber-order = on-order ltb (λ (f : File). f .number) nat-order
 
--- by rising number
+-- the files are in order of rising number
 abbrev rising : List File → Bool
 rising fs = chain (λ f g. not (byNumber g f)) fs
 
--- a file of the list has its number among the list's
+-- the number of a file of the list is one of the list's numbers
 member-in : (xs : List File) (b : File) → In b xs → member (b .number) (numbers xs) ≡ true
 unfolding member any numbers
 member-in (x ∷ xs) b (here e) = let q : eqb (x .number) (b .number) ≡ true = eq-eqb (x .number) (b .number) (ap (λ (f : File). f .number) (sym e)) in rw q
@@ -32,14 +32,14 @@ member-in (x ∷ xs) b (there m) = go (member-in xs b m) (eqb (x .number) (b .nu
     go h true = refl
     go h false = h
 
--- where no number stands twice, the first number does not come again
+-- if no number stands twice, the first file's number does not come again
 pub not-again : (x b : File) (xs : List File) → distinct (numbers (x ∷ xs)) ≡ true → In b xs → x .number ≡ b .number → ⊥
 unfolding distinct numbers
 not-again x b xs d m e =
     let n : member (x .number) (numbers xs) ≡ false = not-true (member (x .number) (numbers xs)) (and-left (not (member (x .number) (numbers xs))) (distinct (numbers xs)) d) in
     clash (rw e (member-in xs b m)) n
 
--- where no number stands twice, a number has one file
+-- if no number stands twice, a number has one file
 pub one-number : (xs : List File) → distinct (numbers xs) ≡ true → (a b : File) → In a xs → In b xs → a .number ≡ b .number → a ≡ b
 unfolding distinct numbers
 one-number (x ∷ xs) d a b (here e) (here e′) q = e ∙ sym e′
@@ -47,11 +47,13 @@ one-number (x ∷ xs) d a b (here e) (there m) q = absurd (not-again x b xs d m 
 one-number (x ∷ xs) d a b (there m) (here e) q = absurd (not-again x a xs d m (ap (λ (f : File). f .number) (sym e) ∙ sym q))
 one-number (x ∷ xs) d a b (there m) (there m′) q = one-number xs (and-right (not (member (x .number) (numbers xs))) (distinct (numbers xs)) d) a b m m′ q
 
--- ---- sorted lists of files with the same members, no number twice and no ties, are one
+-- ---- two sorted lists with the same files, no number twice and no ties are equal
 module _ (lt : File → File → Bool) (o : StrictWeak lt) where
+  -- the files are in order
   abbrev sorted : List File → Bool
   sorted fs = chain (λ f g. not (lt g f)) fs
 
+  -- no file of a sorted list is before its first
   sorted-least : (x y : File) (xs : List File) → sorted (x ∷ xs) ≡ true → In y (x ∷ xs) → lt y x ≡ false
   unfolding chain
   sorted-least x y xs c (here e) = subst (λ (z : File). lt z x ≡ false) (sym e) (o .irrefl x)
@@ -59,6 +61,7 @@ module _ (lt : File → File → Bool) (o : StrictWeak lt) where
   sorted-least x y (z ∷ zs) c (there m) =
       o .ntrans y z x (sorted-least z y zs (and-right (not (lt z x)) (sorted (z ∷ zs)) c) m) (not-true (lt z x) (and-left (not (lt z x)) (sorted (z ∷ zs)) c))
 
+  -- two such lists are equal
   pub sorted-one : (xs ys : List File) → sorted xs ≡ true → sorted ys ≡ true → distinct (numbers xs) ≡ true → distinct (numbers ys) ≡ true
       → ((f : File) → In f xs → In f ys) → ((f : File) → In f ys → In f xs) → ((f g : File) → In f xs → In g xs → lt f g ≡ false → lt g f ≡ false → f ≡ g) → xs ≡ ys
   unfolding distinct numbers
@@ -76,7 +79,7 @@ module _ (lt : File → File → Bool) (o : StrictWeak lt) where
       over u v us vs e h f m (here i) = absurd (not-again u f us h m (ap (λ (g : File). g .number) (e ∙ sym i)))
       over u v us vs e h f m (there k) = k
 
--- rising lists with the same members are one
+-- lists of the same files by rising number are equal
 rising-one : (xs ys : List File) → rising xs ≡ true → rising ys ≡ true → distinct (numbers xs) ≡ true → distinct (numbers ys) ≡ true
     → ((f : File) → In f xs → In f ys) → ((f : File) → In f ys → In f xs) → xs ≡ ys
 unfolding byNumber
@@ -97,7 +100,7 @@ sort-distinct lt fs d = distinct-of-tally (numbers (sort lt fs)) (λ n. bound n)
       distinct-tally (numbers fs) n d,
     )
 
--- the same members, no number twice: the same list by number
+-- lists of the same files, no number twice, are equal when sorted by number
 pub same-by-number : (xs ys : List File) → distinct (numbers xs) ≡ true → distinct (numbers ys) ≡ true → ((f : File) → In f xs ↔ In f ys) → sort byNumber xs ≡ sort byNumber ys
 same-by-number xs ys d e h = rising-one (sort byNumber xs) (sort byNumber ys)
     (sort-chain byNumber byNumber-order xs) (sort-chain byNumber byNumber-order ys) (sort-distinct byNumber xs d) (sort-distinct byNumber ys e)

@@ -11,13 +11,13 @@ use Rattle.model.specs.Counters.{CounterCall, new, reuse, counted, count
 use Rattle.model.specs.Calls.{newNumber}
 use Rattle.model.specs.AnswerLaws.{firstOf-gives, firstOf-on}
 
--- an accepted counter call: no refusal applies, and what it leaves
+-- an accepted counter call: no refusal applies, and its result
 pub record Counted (p : Profile) (s : State) (c : CounterCall) (t : State) : Type 0 where
   pub result : setCounters s (counted c (s .counters)) ≡ t
   pub formed : wellFormed p s ≡ true
   pub bounded : counterBeyond c (s .counters) ≡ false
 
--- what an accepted counter call says
+-- a counter call that gives a state was accepted so
 pub count-accepted : (p : Profile) (s : State) (c : CounterCall) (t : State) → counter p s c ≡ gives t → Counted p s c t
 unfolding counter _⇒_
 count-accepted p s c t h =
@@ -38,7 +38,7 @@ reuse-never-9 p s n h = go (wellFormed p s) h
     go true e = let z : _≡_ {A = ℕ} 0 1 = cc in omega arith
     go false e = let z : _≡_ {A = ℕ} 14 9 = cc in omega arith
 
--- new hands out next: the counter call, with the old next beside its state
+-- `new_file_number` is the counter call `new` with the old next number beside its state
 pub new-is : (p : Profile) (s : State) → newNumber p s ≡ onAnswer (λ t. record { number = s .counters .next; after = t }) (counter p s new)
 unfolding newNumber counter
 new-is p s = firstOf-on (λ t. record { number = s .counters .next; after = t }) ((not (wellFormed p s) ⇒ 14) ∷ (counterBeyond new (s .counters) ⇒ 9) ∷ []) (setCounters s (counted new (s .counters)))

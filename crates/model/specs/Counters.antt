@@ -6,7 +6,7 @@ use lib.Dec.{eqb, ltb, leb}
 use Rattle.model.specs.Answer.{Answer, _⇒_, firstOf}
 use Rattle.model.specs.File.{Profile, Counters, State, maxCounter, wellFormed, setCounters}
 
--- new hands out next; reuse and mark take a file number; last sequence, manifest and previous log number have plain setters
+-- the calls on counters: new, reuse and mark for file numbers, and plain setters for last sequence, manifest and previous log number
 pub data CounterCall : Type 0 where
   new : CounterCall
   reuse : ℕ → CounterCall
@@ -15,7 +15,7 @@ pub data CounterCall : Type 0 where
   manifest : ℕ → CounterCall
   previous : ℕ → CounterCall
 
--- new adds 1 to next; reuse n sets next to n if n + 1 = next, else nothing; mark n sets next to n + 1 if next ≤ n
+-- the counters after a call. new adds 1 to next, reuse n sets next to n if n + 1 = next, mark n sets next to n + 1 if next ≤ n
 unfoldable pub counted : CounterCall → Counters → Counters
 counted new c = record { next = suc (c .next); manifest = c .manifest; last = c .last; log = c .log; previous = c .previous }
 counted (reuse n) c = record { next = cond (eqb (suc n) (c .next)) n (c .next); manifest = c .manifest; last = c .last; log = c .log; previous = c .previous }
@@ -24,7 +24,7 @@ counted (last n) c = record { next = c .next; manifest = c .manifest; last = n; 
 counted (manifest n) c = record { next = c .next; manifest = n; last = c .last; log = c .log; previous = c .previous }
 counted (previous n) c = record { next = c .next; manifest = c .manifest; last = c .last; log = c .log; previous = n }
 
--- new when next is 2^56 - 1, mark when n is 2^56 - 1 or more, a setter when its number is above it; reuse never
+-- a counter would be beyond 2^56 - 1: new when next is 2^56 - 1, mark when n is 2^56 - 1 or more, a setter when its number is above it. reuse never is
 unfoldable pub counterBeyond : CounterCall → Counters → Bool
 counterBeyond new c = leb maxCounter (c .next)
 counterBeyond (reuse n) c = false

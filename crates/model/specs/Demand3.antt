@@ -1,4 +1,4 @@
--- Demand 3: two histories of a fresh store write the same bytes exactly when they leave the same. Assumes nothing.
+-- Demand 3: two histories of a fresh store write the same bytes exactly when they leave the same files, pointers and counters. Assumes nothing.
 use Prim.Native.Nat.{ℕ, zero, suc, _-_, _^_, _<_, _≤_}
 use mathlib.Core.Path.{_≡_, refl, ap, sym, _∙_, subst}
 use mathlib.Core.Logic.{_↔_}
@@ -28,7 +28,7 @@ use Rattle.model.specs.ByNumber.{same-by-number}
 use Rattle.model.specs.HistoryLaws.{fresh-stays, run-counters, run-pointers}
 
 -- ---- well-formed throughout
--- every number in a call is one that code can pass
+-- every file number in a call fits 64 bits, as code passes it
 abbrev pub WordCalls : List Call → Type 0
 WordCalls [] = Unit {0}
 WordCalls (edits e ∷ cs) = Words e × WordCalls cs
@@ -36,13 +36,13 @@ WordCalls (picksSize m ∷ cs) = WordCalls cs
 WordCalls (picksRange m l a b ∷ cs) = WordCalls cs
 WordCalls (counts c ∷ cs) = WordCalls cs
 
--- a call that answers a state keeps it well-formed where its accepted answers are
+-- if an accepted call leaves a well-formed state, so does the call, accepted or refused
 keepS : (p : Profile) (s : State) (o : Answer State) → WF p s → ((t : State) → o ≡ gives t → WF p t) → WF p (kept s o)
 unfolding kept
 keepS p s (gives t) w h = h t refl
 keepS p s (refused n) w h = w
 
--- a pick alike
+-- the same for a pick
 keepP : (p : Profile) (s : State) (o : Answer Pick) → WF p s → ((k : Pick) → o ≡ gives k → WF p (k .after)) → WF p (keptPick s o)
 unfolding keptPick
 keepP p s (gives k) w h = h k refl
@@ -58,6 +58,7 @@ run-formed p s (picksRange m l a b ∷ cs) h w = run-formed p (keptPick s (manua
 run-formed p s (counts c ∷ cs) h w = run-formed p (kept s (counter p s c)) cs h (keepS p s (counter p s c) w (λ t q. count-keeps p s c t q))
 
 -- ---- the fresh store
+-- an empty level is in order
 empty-ordered : (l : ℕ) → inOrder l [] ≡ true
 unfolding inOrder chain
 empty-ordered zero = refl
@@ -71,7 +72,7 @@ empties-ordered (suc n) l = both (inOrder l []) (levelwise inOrder (suc l) (repl
 
 -- a fresh store is well-formed
 pub fresh-formed : (p : Profile) → WF p (fresh p)
-unfolding fresh fiveOf goodPointer distinct numbers maxCounter
+unfolding fresh fiveOf goodPointer distinct numbers
 fresh-formed p = record {
   levels = length-replicate (p .levels) [];
   good = λ f m. absurd (nowhere f m);
@@ -87,7 +88,7 @@ fresh-formed p = record {
     nowhere : (f : File) → In f (join (replicate (p .levels) [])) → ⊥
     nowhere f m = not-nil (subst (λ (fs : List File). In f fs) (join-empties (p .levels)) m)
 
-    small : (n : ℕ) → In n (2 ∷ 0 ∷ 0 ∷ 0 ∷ 0 ∷ []) → n ≤ 2 ^ 56 - 1
+    small : (n : ℕ) → In n (2 ∷ 0 ∷ 0 ∷ 0 ∷ 0 ∷ []) → n ≤ maxCounter
     small n (here e) = omega arith
     small n (there (here e)) = omega arith
     small n (there (there (here e))) = omega arith
@@ -95,12 +96,13 @@ fresh-formed p = record {
     small n (there (there (there (there (here e))))) = omega arith
     small n (there (there (there (there (there z))))) = absurd (not-nil z)
 
--- the pointer that a history of a fresh store leaves
+-- the pointer that a history of a fresh store leaves, by its accepted calls
 left-pointer : (p : Profile) (h : List Call) (l : ℕ) → l < p .levels → pointer (run p (fresh p) h) l ≡ pointerLeft (events p (fresh p) h) l none
 unfolding fresh pointer
 left-pointer p h l i = run-pointers p (fresh p) h l (rw length-replicate i) ∙ ap (λ (o : Option Key). pointerLeft (events p (fresh p) h) l o) (getD-same (p .levels) l none)
 
 -- ---- demand 3
+-- two histories write the same bytes exactly when they leave the same
 pub demand-3 : (p : Profile) → Fits p → (h k : List Call) → WordCalls h → WordCalls k → encode (run p (fresh p) h) ≡ encode (run p (fresh p) k) ↔ SameLeft p h k
 unfolding pointer level
 demand-3 p fit h k wh wk = (λ e. from e, λ d. to d)

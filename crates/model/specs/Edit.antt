@@ -1,4 +1,4 @@
--- One edit on one base: what survives, and the first refusal that applies. Assumes nothing.
+-- One edit on one base: the survivors, and the first refusal that applies. Assumes nothing.
 use Prim.Native.Nat.{ℕ, suc}
 use mathlib.Core.Bool.{Bool, false, not, _&&_, _||_}
 use mathlib.Core.List.{List, [], _∷_, _++_, map}
@@ -32,7 +32,7 @@ pub record Edit : Type 0 where
   pub additions : List Addition
   pub log : Option ℕ
 
--- the edit with none of these
+-- the edit with no entry and no log number
 unfoldable pub emptyEdit : Edit
 emptyEdit = record { pointers = []; deletions = []; additions = []; log = none }
 
@@ -49,11 +49,11 @@ deletes e l n = any (λ d. eqb (d .level) l && eqb (d .number) n) (e .deletions)
 unfoldable pub adds : Edit → ℕ → ℕ → Bool
 adds e l n = any (λ f. eqb (f .number) n) (added e l)
 
--- deleted there and not added there
+-- deleted at the level and not added there
 unfoldable pub leftDeleted : Edit → ℕ → ℕ → Bool
 leftDeleted e l n = deletes e l n && not (adds e l n)
 
--- the base files not left deleted, then the added ones, sorted by smallest key; equal keys stay in this order
+-- the survivors: the base files not left deleted, then the added ones, sorted by smallest key. Equal keys stay in this order
 unfoldable pub survivors : Edit → ℕ → List File → List File
 survivors e l base = sort bySmallest (keep (λ f. not (leftDeleted e l (f .number))) base ++ added e l)
 
@@ -62,7 +62,8 @@ unfoldable pub survivorsFrom : Edit → ℕ → List (List File) → List (List 
 survivorsFrom e l [] = []
 survivorsFrom e l (fs ∷ rest) = survivors e l fs ∷ survivorsFrom e (suc l) rest
 
--- ---- pointers: the last for a level counts
+-- ---- pointers
+-- the last pointer for a level counts
 unfoldable pub pointed : List Pointer → List (Option Key) → List (Option Key)
 pointed [] ps = ps
 pointed (q ∷ qs) ps = pointed qs (set ps (q .level) (some (q .key)))
@@ -72,7 +73,8 @@ unfoldable pub logged : Option ℕ → Counters → Counters
 logged none c = c
 logged (some n) c = record { next = c .next; manifest = c .manifest; last = c .last; log = n; previous = c .previous }
 
--- ---- the state that an accepted edit leaves
+-- ---- the accepted edit
+-- the state that it leaves
 unfoldable pub applied : Edit → State → State
 applied e s = record {
   files = survivorsFrom e 0 (s .files);
@@ -90,17 +92,17 @@ unfoldable pub badLog : Counters → Option ℕ → Bool
 badLog c none = false
 badLog c (some n) = ltb n (c .log) || not (ltb n (c .next)) || ltb maxCounter n
 
--- an entry's refusals, lowest number first
+-- the refusals of each pointer, lowest number first
 unfoldable pub pointerRefusals : Profile → List Pointer → List Refusal
 pointerRefusals p [] = []
 pointerRefusals p (q ∷ qs) = (not (ltb (q .level) (p .levels)) ⇒ 1) ∷ (not (goodKey (p .longest) (q .key)) ⇒ 2) ∷ pointerRefusals p qs
 
--- a deletion has only its level
+-- the refusals of each deletion: only its level can be wrong
 unfoldable pub deletionRefusals : Profile → List Deletion → List Refusal
 deletionRefusals p [] = []
 deletionRefusals p (d ∷ ds) = (not (ltb (d .level) (p .levels)) ⇒ 1) ∷ deletionRefusals p ds
 
--- an addition: level, keys, smallest after largest, size
+-- the refusals of each addition: level, keys, smallest after largest, size
 unfoldable pub additionRefusals : Profile → List Addition → List Refusal
 additionRefusals p [] = []
 additionRefusals p (a ∷ as′) =
@@ -110,11 +112,11 @@ additionRefusals p (a ∷ as′) =
     ∷ (ltb maxSize (a .file .size) ⇒ 5)
     ∷ additionRefusals p as′
 
--- pointers, deletions, additions, each in turn
+-- the refusals of all entries: pointers, deletions, additions, each in turn
 unfoldable pub entryRefusals : Profile → Edit → List Refusal
 entryRefusals p e = pointerRefusals p (e .pointers) ++ deletionRefusals p (e .deletions) ++ additionRefusals p (e .additions)
 
--- then 6, 8, 7: one number twice among all survivors, more than there is room for, survivors that collide
+-- the refusals of the survivors: 6 (a number twice), 8 (more than the room), 7 (files that collide)
 unfoldable pub resultRefusals : Profile → List (List File) → List Refusal
 resultRefusals p fss =
     (not (distinct (numbers (join fss))) ⇒ 6)

@@ -1,4 +1,4 @@
--- Laws of edits: who survives, in what order, and when an edit is accepted. Assumes nothing.
+-- Laws of edits: which files survive, in what order, and when an edit is accepted. Assumes nothing.
 use Prim.Native.Nat.{ℕ, zero, suc, _+_, _<_, _≤_}
 use mathlib.Core.Path.{_≡_, refl, ap, sym, _∙_, subst}
 use mathlib.Core.Logic.{_↔_, _⊎_, inl, inr}
@@ -12,7 +12,8 @@ use native.Mathlib.Omega.{arith}
 use Rattle.lemmas.specs.Order.{StrictWeak, on-order}
 use Rattle.lemmas.specs.Lists.{keep, sort, chain, join, distinct}
 use Rattle.lemmas.specs.ListLaws.{and-left, and-right, both, keep-in, sort-in, sort-tally, sort-chain, sort-stable, tally-in, tally-append, tally-map, distinct-tally, any-in, keep-append}
-use Rattle.model.specs.Key.{Key, goodKey, before, before-order}
+use Rattle.model.specs.Key.{Key, goodKey, before}
+use Rattle.model.specs.KeyLaws.{before-order}
 use Rattle.model.specs.Answer.{gives, _⇒_}
 use Rattle.model.specs.File.{Profile, File, State, numbers, bySmallest, maxSize, noCollision, levelwise, wellFormed}
 use Rattle.model.specs.Edit.{Deletion, Addition, Pointer, Edit, added, deletes, adds, leftDeleted, survivors, survivorsFrom, pointed, applied, tooMany, badLog, pointerRefusals, deletionRefusals, additionRefusals, entryRefusals, resultRefusals, edit}
@@ -20,12 +21,13 @@ use Rattle.model.specs.Counters.{last}
 use Rattle.model.specs.Snapshot.{entries}
 use Rattle.model.specs.AnswerLaws.{NoneApplies, firstOf-gives, firstOf-passes, none-cons, none-nil, none-both}
 
--- files by smallest key: an order
+-- the order of files by smallest key is a strict weak order
 pub bySmallest-order : StrictWeak bySmallest
 unfolding bySmallest
 bySmallest-order = on-order before (λ (f : File). f .smallest) before-order
 
 -- ---- survivors of a level
+-- a survivor is a base file not left deleted, or an added file
 pub survivors-in : (e : Edit) (l : ℕ) (base : List File) (f : File) → In f (survivors e l base) ↔ ((In f base × (leftDeleted e l (f .number) ≡ false)) ⊎ In f (added e l))
 unfolding survivors
 survivors-in e l base f = (λ m. from (append-cases (keep stays base) (sort-in bySmallest all f .0 m)), λ h. sort-in bySmallest all f .1 (to h))
@@ -49,11 +51,11 @@ pub survivors-ordered : (e : Edit) (l : ℕ) (base : List File) → chain (λ f 
 unfolding survivors
 survivors-ordered e l base = sort-chain bySmallest bySmallest-order (keep (λ f. not (leftDeleted e l (f .number))) base ++ added e l)
 
--- files whose smallest key is equal in order to k
+-- the file's smallest key is equal in order to k
 unfoldable pub tiesWith : Key → File → Bool
 tiesWith k f = not (before (f .smallest) k) && not (before k (f .smallest))
 
--- on equal keys base before added: the base files not left deleted, in base order, then the added ones, in edit order
+-- among equal keys the base files not left deleted are first, in base order, then the added ones, in edit order
 pub survivors-stable : (e : Edit) (l : ℕ) (base : List File) (k : Key)
     → keep (tiesWith k) (survivors e l base) ≡ keep (tiesWith k) (keep (λ f. not (leftDeleted e l (f .number))) base) ++ keep (tiesWith k) (added e l)
 unfolding survivors tiesWith bySmallest
@@ -67,7 +69,7 @@ survivors-stable e l base k =
         let b = not-true (before k (g .smallest)) (and-right (not (before (g .smallest) k)) (not (before k (g .smallest))) i) in
         before-order .ntrans (f .smallest) k (g .smallest) a b
 
--- a base file whose number an edit deletes there: if the survivors' numbers are distinct, it is left deleted
+-- if no survivor's number stands twice, a base file whose number the edit deletes is left deleted
 pub deleted-goes : (e : Edit) (l : ℕ) (base : List File) (f : File) → distinct (numbers (survivors e l base)) ≡ true → In f base → leftDeleted e l (f .number) ≡ deletes e l (f .number)
 unfolding survivors numbers leftDeleted adds
 deleted-goes e l base f d m = go (adds e l (f .number)) (deletes e l (f .number)) refl refl
@@ -100,25 +102,27 @@ deleted-goes e l base f d m = go (adds e l (f .number)) (deletes e l (f .number)
         never false = refl
 
 -- ---- levels
+-- the survivors of one level
 pub survivorsFrom-at : (e : Edit) (k : ℕ) (fss : List (List File)) (i : ℕ) → i < length fss → getD (survivorsFrom e k fss) i [] ≡ survivors e (k + i) (getD fss i [])
 unfolding survivorsFrom
 survivorsFrom-at e k [] i h = absurd (omega arith)
 survivorsFrom-at e k (fs ∷ fss) zero h = ap (λ (n : ℕ). survivors e n fs) (omega arith)
 survivorsFrom-at e k (fs ∷ fss) (suc i) h = survivorsFrom-at e (suc k) fss i (omega arith) ∙ ap (λ (n : ℕ). survivors e n (getD fss i [])) (omega arith)
 
--- as many levels as before
+-- an edit keeps the number of levels
 pub survivorsFrom-length : (e : Edit) (k : ℕ) (fss : List (List File)) → length (survivorsFrom e k fss) ≡ length fss
 unfolding survivorsFrom
 survivorsFrom-length e k [] = refl
 survivorsFrom-length e k (fs ∷ fss) = ap suc (survivorsFrom-length e (suc k) fss)
 
--- as many pointers as before
+-- an edit keeps the number of pointers
 pub pointed-length : (qs : List Pointer) (ps : List (Option Key)) → length (pointed qs ps) ≡ length ps
 unfolding pointed
 pointed-length [] ps = refl
 pointed-length (q ∷ qs) ps = pointed-length qs (set ps (q .level) (some (q .key))) ∙ length-set ps (q .level) (some (q .key))
 
 -- ---- the entries of an edit to which no refusal applies
+-- a pointer: its level and key
 pub record PointerFits (p : Profile) (q : Pointer) : Type 0 where
   pub level : q .level < p .levels
   pub key : goodKey (p .longest) (q .key) ≡ true
@@ -153,7 +157,7 @@ pointers-fit p (q ∷ qs) = let r = pointers-fit p qs in (
     }
     from h ih x (there m) = ih x m
 
--- deletions alike
+-- the same for deletions
 pub deletions-fit : (p : Profile) (ds : List Deletion) → NoneApplies (deletionRefusals p ds) ↔ ((d : Deletion) → In d ds → DeletionFits p d)
 unfolding deletionRefusals _⇒_
 deletions-fit p [] = (λ h d m. absurd (not-nil m), λ h. none-nil)
@@ -168,7 +172,7 @@ deletions-fit p (d ∷ ds) = let r = deletions-fit p ds in (
     }
     from h ih x (there m) = ih x m
 
--- additions alike
+-- the same for additions
 pub additions-fit : (p : Profile) (as′ : List Addition) → NoneApplies (additionRefusals p as′) ↔ ((a : Addition) → In a as′ → AdditionFits p a)
 unfolding additionRefusals _⇒_
 additions-fit p [] = (λ h a m. absurd (not-nil m), λ h. none-nil)
@@ -207,7 +211,8 @@ additions-fit p (a ∷ as′) = let r = additions-fit p as′ in (λ h x m. from
         none-cons (not l) 1 r₂ (rw (lt-ltb (a .level) (p .levels) (g .level))) (none-cons (not (k₁ && k₂)) 2 r₃ (ap (λ (b : Bool). not b) keys)
         (none-cons o 4 r₄ (g .order) (none-cons (ltb maxSize (a .file .size)) 5 (additionRefusals p as′) (le-ltb maxSize (a .file .size) (g .size)) h)))
 
--- ---- an edit is accepted exactly if no refusal applies; it then leaves `applied`
+-- ---- an edit is accepted exactly if no refusal applies
+-- an accepted edit: the state it leaves, and no refusal applies
 pub record Accepted (p : Profile) (s : State) (e : Edit) (t : State) : Type 0 where
   pub result : applied e s ≡ t
   -- 14
@@ -227,7 +232,7 @@ pub record Accepted (p : Profile) (s : State) (e : Edit) (t : State) : Type 0 wh
   -- 7
   pub apart : levelwise noCollision 0 (survivorsFrom e 0 (s .files)) ≡ true
 
--- accepted: no refusal applies
+-- an edit that gives a state was accepted so
 pub edit-accepted : (p : Profile) (s : State) (e : Edit) (t : State) → edit p s e ≡ gives t → Accepted p s e t
 unfolding edit entryRefusals resultRefusals _⇒_
 edit-accepted p s e t h =
@@ -252,7 +257,7 @@ edit-accepted p s e t h =
       apart = not-false (levelwise noCollision 0 fss) (last (not (levelwise noCollision 0 fss) ⇒ 7) (there (there (here refl))));
     }
 
--- no refusal applies: accepted
+-- an edit to which no refusal applies gives its state
 pub accepted-edit : (p : Profile) (s : State) (e : Edit) (t : State) → Accepted p s e t → edit p s e ≡ gives t
 unfolding edit entryRefusals resultRefusals
 accepted-edit p s e t a =

@@ -20,28 +20,28 @@ use Rattle.model.specs.Question.{findFile, passed, findIndex, Cutter, fr
 use Rattle.model.specs.Snapshot.{byNumber, writeKey, writeFile, entries, writeEntry, section, writeLevel, fiveOf, encode, onward, _>>=_, give, times, readBytes, readNumber, readKey, readFile, readSection, readLevel, readPointer, placed, fromFive, readState, sameBytes, accept, decode}
 use Rattle.model.specs.Calls.{compareKeys, parseKey, newNumber, lentList, totalSize, endsOf, getRange, findFileCall, lookUp, Work, needsCompaction, isTrivialMove, deletionsOf, counts-up-to, goodCutter, shouldStop, goodMemory, isBaseLevel, memtable, overlapInLevel, overlappingInputs, live, write, orBad, read}
 
--- everything above computes where this is unfolded
+-- unfolding this name unfolds all definitions, so that examples compute
 computes : Bool
-unfolding byFirst lexb number bytes push keep any all find insert sort chain join isEmpty member distinct sum upFrom orElse Option·toList user trailer sequence kind key goodUser goodKey parts userBefore rank before stands _⇒_ firstOf onAnswer lent full level pointer seeks total numbers allFiles bySmallest maxCounter maxSize goodFile inOrder noCollision levelwise goodPointer goodCounters goodFiles wellFormed fresh setPointer setCounters emptyEdit added deletes adds leftDeleted survivors survivorsFrom pointed logged applied tooMany badLog pointerRefusals deletionRefusals additionRefusals entryRefusals resultRefusals edit counted counterBeyond counter lower byteLimit score scored hasGreatest levelToCompact due between overlaps inside earlier later stretch sticksOut widenBy widen overlapping isLowest isHighest lowKey highKey rangeOf firstFile startFile sizeInputs upTo manualInputs grandOf grows grownFirst complete badMaximum sizePick manualPick goodLevel goodPicked isManual trivial inputDeletions findFile passed findIndex freshCutter cutStep holds isBase notBefore candidate lookup descend deepest memtableLevel liveFiles byNumber writeKey writeFile entries writeEntry section writeLevel fiveOf encode onward _>>=_ give times readBytes readNumber readKey readFile readSection readLevel readPointer placed fromFive readState sameBytes accept decode compareKeys parseKey newNumber lentList totalSize endsOf getRange findFileCall lookUp needsCompaction isTrivialMove deletionsOf counts-up-to goodCutter shouldStop goodMemory isBaseLevel memtable overlapInLevel overlappingInputs live write orBad read
+unfolding byFirst lexb number bytes push keep any all find insert sort chain join isEmpty member distinct sum upFrom orElse Option·toList user trailer sequence kind key goodUser goodKey parts userBefore rank before stands _⇒_ firstOf onAnswer lent full level pointer seeks total numbers allFiles bySmallest goodFile inOrder noCollision levelwise goodPointer goodCounters goodFiles wellFormed fresh setPointer setCounters emptyEdit added deletes adds leftDeleted survivors survivorsFrom pointed logged applied tooMany badLog pointerRefusals deletionRefusals additionRefusals entryRefusals resultRefusals edit counted counterBeyond counter lower byteLimit score scored hasGreatest levelToCompact due between overlaps inside earlier later stretch sticksOut widenBy widen overlapping isLowest isHighest lowKey highKey rangeOf firstFile startFile sizeInputs upTo manualInputs grandOf grows grownFirst complete badMaximum sizePick manualPick goodLevel goodPicked isManual trivial inputDeletions findFile passed findIndex freshCutter cutStep holds isBase notBefore candidate lookup descend deepest memtableLevel liveFiles byNumber writeKey writeFile entries writeEntry section writeLevel fiveOf encode onward _>>=_ give times readBytes readNumber readKey readFile readSection readLevel readPointer placed fromFive readState sameBytes accept decode compareKeys parseKey newNumber lentList totalSize endsOf getRange findFileCall lookUp needsCompaction isTrivialMove deletionsOf counts-up-to goodCutter shouldStop goodMemory isBaseLevel memtable overlapInLevel overlappingInputs live write orBad read
 computes = true
 
--- user key of one letter, its sequence; a value
+-- the key of a one-letter user key, a sequence and type 1 (a value)
 abbrev at : ℕ → ℕ → Key
 at letter s = key (letter ∷ []) s 1
 
--- a file of a number, a size and two keys
+-- a file by number, size and keys
 abbrev file : ℕ → ℕ → Key → Key → File
 file n z a b = record { number = n; size = z; smallest = a; largest = b }
 
--- seven levels, the first three given; fresh pointers and counters
+-- seven levels, the first three given, with fresh pointers and counters
 abbrev with7 : List File → List File → List File → State
 with7 l0 l1 l2 = record { files = l0 ∷ l1 ∷ l2 ∷ [] ∷ [] ∷ [] ∷ [] ∷ []; pointers = replicate 7 none; counters = record { next = 2; manifest = 0; last = 0; log = 0; previous = 0 } }
 
--- an edit of deletions and additions
+-- an edit with these deletions and additions
 abbrev adding : List Deletion → List Addition → Edit
 adding ds as′ = record { pointers = []; deletions = ds; additions = as′; log = none }
 
--- an addition
+-- an addition of a file at a level
 abbrev add : ℕ → File → Addition
 add l f = record { level = l; file = f }
 
@@ -49,7 +49,7 @@ add l f = record { level = l; file = f }
 abbrev M : ℕ
 M = 2097152
 
--- letters
+-- the letters, as bytes
 abbrev a : ℕ
 a = 97
 
@@ -77,27 +77,27 @@ x = 120
 abbrev z : ℕ
 z = 122
 
--- E2, E3
+-- E2, E3: level 1 has one file of n bytes
 abbrev sized : ℕ → State
 sized n = with7 [] (file 1 n (at a 9) (at b 5) ∷ []) []
 
--- four files at level 0 and a full level 1
+-- E3: four files at level 0 and a full level 1
 abbrev four : State
 four = with7 (file 11 1 (at a 9) (at b 5) ∷ file 12 1 (at a 9) (at b 5) ∷ file 13 1 (at a 9) (at b 5) ∷ file 14 1 (at a 9) (at b 5) ∷ []) (file 1 10485760 (at a 9) (at b 5) ∷ []) []
 
--- E4, E5
+-- E4, E5: a@9..b@5
 abbrev f4 : File
 f4 = file 1 1 (at a 9) (at b 5)
 
--- begins after f4 ends, by sequence
+-- E4: it begins after f4 ends, by sequence
 abbrev f4′ : File
 f4′ = file 2 1 (at b 3) (at c 1)
 
--- begins where f4 ends
+-- E5: it begins where f4 ends
 abbrev f5 : File
 f5 = file 2 1 (at b 5) (at c 1)
 
--- E6
+-- E6: the file with number 7
 abbrev seven : File
 seven = file 7 1 (at a 9) (at b 5)
 
@@ -105,7 +105,7 @@ seven = file 7 1 (at a 9) (at b 5)
 abbrev moved : ℕ → Picked
 moved n = record { level = 1; cause = bySize (reported (record { part = 1; whole = 1 })); maximum = M; first = f4 ∷ []; second = []; grand = file 3 n (at a 9) (at b 5) ∷ [] }
 
--- E8: a..b and c..d at level 1, a..c of n bytes at level 2, asked a..a: grown, the bytes are n + 2
+-- E8: a..b and c..d at level 1, a..c of n bytes at level 2. The range asked is a..a, and the grown bytes are n + 2
 abbrev grower : ℕ → State
 grower n = with7 [] (file 1 1 (at a 9) (at b 5) ∷ file 2 1 (at c 9) (at d 5) ∷ []) (file 3 n (at a 9) (at c 5) ∷ [])
 
@@ -117,15 +117,15 @@ firstInputs p = numbers (p .picked .first)
 abbrev seen : Cutter
 seen = record { seen = true; place = 0; count = 0 }
 
--- E10
+-- E10: a..d, c..h, g..k, x..z
 abbrev four0 : List File
 four0 = file 1 1 (at a 9) (at d 9) ∷ file 2 1 (at c 9) (at h 9) ∷ file 3 1 (at g 9) (at k 9) ∷ file 4 1 (at x 9) (at z 9) ∷ []
 
--- E11: level 1 is due and its pointer is at the last file's largest
+-- E11: level 1 is due, and its pointer is at the last file's largest key
 abbrev pointed1 : State
 pointed1 = setPointer (with7 [] (file 1 10485760 (at a 9) (at b 5) ∷ f4′ ∷ []) []) 1 (at c 1)
 
--- E1 to E12, each through what a public call gives; E12 by the rule for allowed seeks
+-- E1 to E12, each as the result of a public call. E12 is by the rule for allowed seeks
 pub record TableE : Type 0 where
   pub e1 : (compareKeys full (at b 5) (at b 4) ≡ gives isLess) × (compareKeys full (at b 4) (at c 9) ≡ gives isLess)
   pub e2 : (onAnswer (λ (w : Work). w .isDue) (needsCompaction full (sized 10485760)) ≡ gives true) × (onAnswer (λ (w : Work). w .isDue) (needsCompaction full (sized 10485759)) ≡ gives false)
@@ -140,7 +140,7 @@ pub record TableE : Type 0 where
   pub e11 : onAnswer firstInputs (sizePick full pointed1 M) ≡ gives (1 ∷ [])
   pub e12 : (seeks 1654783 ≡ 100) × (seeks 1654784 ≡ 101)
 
--- the table, by computation
+-- the table holds, by computation
 pub table-e : TableE
 unfolding computes
 table-e = record {
@@ -158,21 +158,22 @@ table-e = record {
   e12 = (refl, refl);
 }
 
--- the type is not weighed, and a proper prefix comes first
+-- the type is not weighed, and a proper prefix is first
 pub record Compared : Type 0 where
   pub kinds : compareKeys full (key (b ∷ []) 5 0) (key (b ∷ []) 5 1) ≡ gives isEqual
   pub prefix : compareKeys full (at a 5) (key (a ∷ b ∷ []) 9 1) ≡ gives isLess
   pub after : compareKeys full (at c 9) (at b 4) ≡ gives isGreater
 
--- by computation
+-- they hold, by computation
 pub compared : Compared
 unfolding computes
 compared = record { kinds = refl; prefix = refl; after = refl }
 
--- calls on a lent list and with lent output: 1 before 14 before 2, and 13 last
+-- two files that make a well-formed level 1
 abbrev two1 : List File
 two1 = f4 ∷ f4′ ∷ []
 
+-- calls on a lent list and with lent output: 1 before 14 before 2, and 13 last
 pub record Lent : Type 0 where
   pub above : findFileCall full 7 (f5 ∷ f4 ∷ []) [] ≡ refused 1
   pub unordered : findFileCall full 1 (f5 ∷ f4 ∷ []) [] ≡ refused 14
@@ -187,7 +188,7 @@ pub record Lent : Type 0 where
   pub left : lent (live full (with7 [] two1 []) 4) (9 ∷ 9 ∷ 9 ∷ 9 ∷ []) ≡ 1 ∷ 2 ∷ 9 ∷ 9 ∷ []
   pub kept : lent (live full (with7 [] two1 []) 1) (9 ∷ []) ≡ 9 ∷ []
 
--- by computation
+-- they hold, by computation
 pub lent-calls : Lent
 unfolding computes
 lent-calls = record {
@@ -210,16 +211,17 @@ pub fresh-bytes : encode (fresh full) ≡ (5 ∷ 0 ∷ 2 ∷ []) ++ replicate 39
 unfolding computes
 fresh-bytes = refl
 
--- and they read back as a fresh store
+-- these bytes read back as a fresh store
 pub fresh-reads : decode full (encode (fresh full)) ≡ some (fresh full)
 unfolding computes
 fresh-reads = refl
 
--- ---- the same definitions at a smaller profile
+-- ---- the same definitions with a smaller profile
+-- three levels, 48 files, user keys of 16 bytes
 abbrev pub small : Profile
 small = record { levels = 3; room = 48; longest = 16; deletions = 256; additions = 64; pointers = 16 }
 
--- what it gives
+-- some of its results
 pub record Small : Type 0 where
   pub fresh-bytes : encode (fresh small) ≡ encode (fresh full)
   pub above : edit small (fresh small) (adding [] (add 3 f4 ∷ [])) ≡ refused 1
@@ -227,7 +229,7 @@ pub record Small : Type 0 where
   pub deepest : memtableLevel small (fresh small) (record { start = a ∷ []; stop = b ∷ [] }) ≡ 1
   pub reads-full : decode full (encode (fresh small)) ≡ some (fresh full)
 
--- by computation
+-- they hold, by computation
 pub small-drive : Small
 unfolding computes
 small-drive = record { fresh-bytes = refl; above = refl; last-level = refl; deepest = refl; reads-full = refl }

@@ -1,14 +1,63 @@
--- Files, levels and the state of a store, as document 01 speaks of them. Nothing here says how code keeps them. Assumes nothing.
-use Prim.Native.Nat.{ℕ, zero, suc, _-_, _/_, _^_, max}
+-- Files, levels and the state of a store, in the words of document 01. Nothing here depends on how code keeps them. Assumes nothing.
+use Prim.Native.Nat.{ℕ, zero, suc, _+_, _-_, _*_, _/_, _^_, max}
 use mathlib.Core.Bool.{Bool, true, not, _&&_}
 use mathlib.Core.List.{List, [], _∷_, map}
 use mathlib.Core.Option.{Option, none, some}
 use lib.Dec.{eqb, ltb, leb}
 use lib.ListN.{length, getD, replicate, set}
 use Rattle.lemmas.specs.Lists.{all, chain, join, distinct, sum}
-use Rattle.model.specs.Key.{Key, goodKey, before}
+use Rattle.model.specs.Key.{Key, trailerBytes, goodKey, before}
 
--- what varies between machines: the levels, the files of a version, the bytes of a user key, and the entries of an edit
+-- ---- the numbers of the full machine, each written once. All others are computed from them, here and in the other crates
+-- the most files of a version
+abbrev pub maxFiles : ℕ
+maxFiles = 256
+
+-- the number of levels. A snapshot always has as many level sections, whatever the profile
+abbrev pub levelCount : ℕ
+levelCount = 7
+
+-- the last level
+abbrev pub lastLevel : ℕ
+lastLevel = levelCount - 1
+
+-- the most bytes of a user key
+abbrev pub longestUser : ℕ
+longestUser = 32
+
+-- the most deletions of an edit
+abbrev pub maxDeletions : ℕ
+maxDeletions = 256
+
+-- the most additions of an edit
+abbrev pub maxAdditions : ℕ
+maxAdditions = 64
+
+-- the most pointers of an edit
+abbrev pub maxPointers : ℕ
+maxPointers = 16
+
+-- the most bytes of an internal key: a user key and its trailer
+abbrev pub keyRoom : ℕ
+keyRoom = longestUser + trailerBytes
+
+-- the largest size of a file
+abbrev pub maxSize : ℕ
+maxSize = 2 ^ 40
+
+-- the most bytes that the files of a version can have
+abbrev pub maxBytes : ℕ
+maxBytes = maxFiles * maxSize
+
+-- the largest counter
+abbrev pub maxCounter : ℕ
+maxCounter = 2 ^ 56 - 1
+
+-- the largest number of 64 bits
+abbrev pub maxWord : ℕ
+maxWord = 2 ^ 64 - 1
+
+-- the numbers that may differ between machines: levels, files of a version, bytes of a user key, entries of an edit
 pub record Profile : Type 0 where
   pub levels : ℕ
   pub room : ℕ
@@ -17,18 +66,18 @@ pub record Profile : Type 0 where
   pub additions : ℕ
   pub pointers : ℕ
 
--- seven levels, 256 files, user keys of 32 bytes; edits of 256 deletions, 64 additions, 16 pointers
+-- the profile of document 01
 unfoldable pub full : Profile
-full = record { levels = 7; room = 256; longest = 32; deletions = 256; additions = 64; pointers = 16 }
+full = record { levels = levelCount; room = maxFiles; longest = longestUser; deletions = maxDeletions; additions = maxAdditions; pointers = maxPointers }
 
--- a file: number, size, smallest and largest internal key; its allowed seeks follow from its size
+-- a file: number, size, smallest and largest internal key. Its allowed seeks follow from its size
 pub record File : Type 0 where
   pub number : ℕ
   pub size : ℕ
   pub smallest : Key
   pub largest : Key
 
--- next file number, manifest, last sequence, log number, previous log number
+-- the five counters: next file number, manifest, last sequence, log number, previous log number
 pub record Counters : Type 0 where
   pub next : ℕ
   pub manifest : ℕ
@@ -36,7 +85,7 @@ pub record Counters : Type 0 where
   pub log : ℕ
   pub previous : ℕ
 
--- a state of the store: the files of each level, a pointer for each level if set, the counters
+-- the state of a store: the files of each level, a pointer for each level if set, the counters
 pub record State : Type 0 where
   pub files : List (List File)
   pub pointers : List (Option Key)
@@ -54,7 +103,7 @@ pointer s l = getD (s .pointers) l none
 unfoldable pub seeks : ℕ → ℕ
 seeks size = max 100 (size / 16384)
 
--- the bytes of a list of files: the sum over the listed files
+-- the sum of the files' sizes
 unfoldable pub total : List File → ℕ
 total fs = sum (map (λ (f : File). f .size) fs)
 
@@ -71,15 +120,7 @@ unfoldable pub bySmallest : File → File → Bool
 bySmallest f g = before (f .smallest) (g .smallest)
 
 -- ---- well-formed
--- the most that a counter holds
-unfoldable pub maxCounter : ℕ
-maxCounter = 2 ^ 56 - 1
-
--- the largest size of a file
-unfoldable pub maxSize : ℕ
-maxSize = 2 ^ 40
-
--- keys of right length and type, smallest not after largest, size at most 2^40
+-- a file: keys of right length and type, smallest not after largest, size at most 2^40
 unfoldable pub goodFile : Profile → File → Bool
 goodFile p f = goodKey (p .longest) (f .smallest) && goodKey (p .longest) (f .largest)
     && not (before (f .largest) (f .smallest)) && leb (f .size) maxSize
@@ -88,17 +129,17 @@ goodFile p f = goodKey (p .longest) (f .smallest) && goodKey (p .longest) (f .la
 abbrev pub apart : List File → Bool
 apart fs = chain (λ (f g : File). before (f .largest) (g .smallest)) fs
 
--- level 0 ordered by smallest key with ties in any order; deeper levels strictly apart
+-- a level is in order: level 0 by smallest key with ties in any order, deeper levels strictly apart
 unfoldable pub inOrder : ℕ → List File → Bool
 inOrder zero fs = chain (λ f g. not (bySmallest g f)) fs
 inOrder (suc l) fs = apart fs
 
--- survivors do not collide: asked above level 0
+-- survivors do not collide. Level 0 is not asked
 unfoldable pub noCollision : ℕ → List File → Bool
 noCollision zero fs = true
 noCollision (suc l) fs = apart fs
 
--- each list passes the test of its level
+-- each list passes the test of its level, counted from l on
 unfoldable pub levelwise : (ℕ → List File → Bool) → ℕ → List (List File) → Bool
 levelwise p l [] = true
 levelwise p l (fs ∷ rest) = p l fs && levelwise p (suc l) rest
@@ -112,7 +153,7 @@ goodPointer p (some k) = goodKey (p .longest) k
 unfoldable pub goodCounters : Counters → Bool
 goodCounters c = all (λ n. leb n maxCounter) (c .next ∷ c .manifest ∷ c .last ∷ c .log ∷ c .previous ∷ [])
 
--- as many levels as the profile has; files good, numbers 64-bit, no number twice, room for them, each level in order
+-- the levels: as many as the profile has, files good, numbers of 64 bits, no number twice, room for all, each level in order
 unfoldable pub goodFiles : Profile → List (List File) → Bool
 goodFiles p fss = eqb (length fss) (p .levels)
     && all (λ f. goodFile p f && ltb (f .number) (2 ^ 64)) (join fss)
@@ -120,13 +161,14 @@ goodFiles p fss = eqb (length fss) (p .levels)
     && leb (length (join fss)) (p .room)
     && levelwise inOrder 0 fss
 
--- a state that is well-formed
+-- the state is well-formed
 unfoldable pub wellFormed : Profile → State → Bool
 wellFormed p s = goodFiles p (s .files)
     && eqb (length (s .pointers)) (p .levels) && all (goodPointer p) (s .pointers)
     && goodCounters (s .counters)
 
--- ---- the fresh store: no files or pointers, next file number 2, other counters 0
+-- ---- the fresh store
+-- no files or pointers, next file number 2, other counters 0
 unfoldable pub fresh : Profile → State
 fresh p = record {
   files = replicate (p .levels) [];
@@ -135,10 +177,10 @@ fresh p = record {
 }
 
 -- ---- setting a part
--- a pointer set, all else as it was
+-- the same state with one pointer set
 unfoldable pub setPointer : State → ℕ → Key → State
 setPointer s l k = record { files = s .files; pointers = set (s .pointers) l (some k); counters = s .counters }
 
--- other counters, all else as it was
+-- the same state with other counters
 unfoldable pub setCounters : State → Counters → State
 setCounters s c = record { files = s .files; pointers = s .pointers; counters = c }

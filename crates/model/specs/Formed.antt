@@ -1,4 +1,4 @@
--- What well-formed says, and that an accepted edit and an accepted counter call keep it. Assumes nothing.
+-- Well-formed, part by part, and that accepted edits and counter calls keep it. Assumes nothing.
 use Prim.Native.Nat.{ℕ, zero, suc, _^_, _<_, _≤_}
 use mathlib.Core.Path.{_≡_, refl, ap, sym, _∙_, subst}
 use mathlib.Core.Logic.{_↔_, _⊎_, inl, inr}
@@ -13,7 +13,8 @@ use Rattle.lemmas.specs.Order.{clash, asym, le-lt}
 use Rattle.lemmas.specs.Lists.{keep, any, all, sort, chain, join, distinct}
 use Rattle.lemmas.specs.ListLaws.{and-left, and-right, both, keep-in, all-in, set-in, distinct-append, or-right, chain-rest, sort-sorted, keep-all}
 use Rattle.lemmas.specs.Distinct.{same-test}
-use Rattle.model.specs.Key.{Key, goodKey, before, before-order}
+use Rattle.model.specs.Key.{Key, goodKey, before}
+use Rattle.model.specs.KeyLaws.{before-order}
 use Rattle.model.specs.Answer.{gives}
 use Rattle.model.specs.File.{Profile, File, Counters, State, numbers, bySmallest, maxCounter, maxSize, goodFile, apart, inOrder, noCollision, levelwise, goodPointer, goodCounters, goodFiles, wellFormed, setCounters}
 use Rattle.model.specs.Edit.{Addition, Pointer, Edit, emptyEdit, added, deletes, leftDeleted, survivors, survivorsFrom, pointed, logged, applied, tooMany, badLog, edit}
@@ -38,7 +39,7 @@ pub record WF (p : Profile) (s : State) : Type 0 where
 abbrev goodWord : Profile → File → Bool
 goodWord p f = goodFile p f && ltb (f .number) (2 ^ 64)
 
--- the test says just that
+-- the test holds exactly if each part does
 pub formed-says : (p : Profile) (s : State) → wellFormed p s ≡ true ↔ WF p s
 unfolding wellFormed goodFiles goodCounters fiveOf
 formed-says p s =
@@ -96,7 +97,7 @@ pub record GoodFile (p : Profile) (f : File) : Type 0 where
   pub order : before (f .largest) (f .smallest) ≡ false
   pub size : f .size ≤ maxSize
 
--- the test says just that
+-- the test holds exactly if each part does
 pub goodFile-says : (p : Profile) (f : File) → goodFile p f ≡ true ↔ GoodFile p f
 unfolding goodFile
 goodFile-says p f =
@@ -121,7 +122,7 @@ unfolding numbers
 numbers-append [] ys = refl
 numbers-append (x ∷ xs) ys = ap (λ (r : List ℕ). x .number ∷ r) (numbers-append xs ys)
 
--- no number twice over all levels: none twice at one
+-- if no number stands twice in all levels, none does in one
 pub distinct-level : (fss : List (List File)) (i : ℕ) → distinct (numbers (join fss)) ≡ true → distinct (numbers (getD fss i [])) ≡ true
 unfolding join distinct numbers
 distinct-level [] zero h = refl
@@ -129,8 +130,8 @@ distinct-level [] (suc i) h = refl
 distinct-level (fs ∷ fss) zero h = distinct-append (numbers fs) (numbers (join fss)) (rw numbers-append at h) .0
 distinct-level (fs ∷ fss) (suc i) h = distinct-level fss i (distinct-append (numbers fs) (numbers (join fss)) (rw numbers-append at h) .1)
 
--- ---- files that stand apart: each ends strictly before the next begins
--- its first file begins before every later one
+-- ---- files apart: each ends strictly before the next begins
+-- the first file begins before every later one
 apart-first : (x y : File) (xs : List File) → ((f : File) → In f (x ∷ xs) → before (f .largest) (f .smallest) ≡ false) → apart (x ∷ xs) ≡ true → In y xs → bySmallest x y ≡ true
 unfolding chain bySmallest
 apart-first x y [] g c m = absurd (not-nil m)
@@ -142,7 +143,7 @@ apart-first x y (z ∷ zs) g c m =
     go step ih (here e) = subst (λ (f : File). before (x .smallest) (f .smallest) ≡ true) (sym e) step
     go step ih (there k) = before-order .trans (x .smallest) (z .smallest) (y .smallest) step (ih k)
 
--- they are sorted by smallest key
+-- files apart are sorted by smallest key
 pub apart-sorted : (fs : List File) → ((f : File) → In f fs → before (f .largest) (f .smallest) ≡ false) → apart fs ≡ true → chain (λ f g. not (bySmallest g f)) fs ≡ true
 unfolding chain
 apart-sorted [] g c = refl
@@ -150,7 +151,7 @@ apart-sorted (x ∷ []) g c = refl
 apart-sorted (x ∷ z ∷ zs) g c = both (not (bySmallest z x)) (chain (λ f g. not (bySmallest g f)) (z ∷ zs))
     (rw (asym bySmallest bySmallest-order x z (apart-first x z (z ∷ zs) g c (here refl)))) (apart-sorted (z ∷ zs) (λ f i. g f (there i)) (and-right (before (x .largest) (z .smallest)) (apart (z ∷ zs)) c))
 
--- and no two of them have smallest keys equal in order
+-- no two of them have smallest keys equal in order
 pub apart-ties : (fs : List File) → ((f : File) → In f fs → before (f .largest) (f .smallest) ≡ false) → apart fs ≡ true
     → (f g : File) → In f fs → In g fs → bySmallest f g ≡ false → bySmallest g f ≡ false → f ≡ g
 apart-ties (x ∷ xs) w c f g (here e) (here e′) p q = e ∙ sym e′
@@ -206,7 +207,7 @@ pointed-in (q ∷ qs) ps o m = go (pointed-in qs (set ps (q .level) (some (q .ke
     go (inl h) = placed (set-in ps (q .level) (some (q .key)) o h)
     go (inr h) = inr (h .0, there (h .1), h .2)
 
--- five numbers, one by one
+-- a bound on five numbers, one by one
 five : (a b c d e : ℕ) → ((n : ℕ) → In n (a ∷ b ∷ c ∷ d ∷ e ∷ []) → n ≤ maxCounter) ↔ ((a ≤ maxCounter) × (b ≤ maxCounter) × (c ≤ maxCounter) × (d ≤ maxCounter) × (e ≤ maxCounter))
 five a b c d e = (λ h. (h a (here refl), h b (there (here refl)), h c (there (there (here refl))), h d (there (there (there (here refl)))), h e (there (there (there (there (here refl)))))), λ h n m. go h n m)
   where
@@ -229,13 +230,13 @@ logged-bounded c (some k) b h =
     small : k ≤ maxCounter
     small = ltb-false maxCounter k (or-right (ltb k (c .log) || not (ltb k (c .next))) (ltb maxCounter k) b)
 
--- survivors that do not collide are in order: level 0 is sorted
+-- survivors that do not collide are in order, since level 0 is sorted
 level-ordered : (e : Edit) (l : ℕ) (fs : List File) → noCollision l (survivors e l fs) ≡ true → inOrder l (survivors e l fs) ≡ true
 unfolding noCollision inOrder
 level-ordered e zero fs c = survivors-ordered e 0 fs
 level-ordered e (suc l) fs c = c
 
--- so every level of survivors that do not collide is in order
+-- the same for every level
 levels-ordered : (e : Edit) (k : ℕ) (fss : List (List File)) → levelwise noCollision k (survivorsFrom e k fss) ≡ true → levelwise inOrder k (survivorsFrom e k fss) ≡ true
 unfolding levelwise survivorsFrom
 levels-ordered e k [] h = refl
@@ -289,20 +290,20 @@ order-apart zero (fs ∷ fss) h = order-apart 1 fss (and-right (inOrder 0 fs) (l
 order-apart (suc l) (fs ∷ fss) h = both (inOrder (suc l) fs) (levelwise noCollision (suc (suc l)) fss) (and-left (inOrder (suc l) fs) (levelwise inOrder (suc (suc l)) fss) h)
     (order-apart (suc (suc l)) fss (and-right (inOrder (suc l) fs) (levelwise inOrder (suc (suc l)) fss) h))
 
--- so survivors collide exactly where a level of them is not in order
+-- so survivors collide exactly if some level of them is not in order
 pub collisions : (e : Edit) (fss : List (List File)) → levelwise noCollision 0 (survivorsFrom e 0 fss) ≡ levelwise inOrder 0 (survivorsFrom e 0 fss)
 collisions e fss = same-test (levelwise noCollision 0 (survivorsFrom e 0 fss)) (levelwise inOrder 0 (survivorsFrom e 0 fss)) (levels-ordered e 0 fss) (order-apart 0 (survivorsFrom e 0 fss))
 
 -- ---- the empty edit leaves a well-formed state as it is
 
--- its survivors are the files that were there
+-- its survivors are the base files
 empty-survivors : (l : ℕ) (fs : List File) → ((f : File) → In f fs → before (f .largest) (f .smallest) ≡ false) → inOrder l fs ≡ true → survivors emptyEdit l fs ≡ fs
 unfolding survivors emptyEdit added leftDeleted deletes keep any
 empty-survivors l fs g h =
     ap (λ (gs : List File). sort bySmallest gs) (append-nil (keep (λ (f : File). true) fs) ∙ keep-all (λ (f : File). true) fs (λ f m. refl))
     ∙ sort-sorted bySmallest fs (levels-sorted l fs g h)
 
--- at every level
+-- the same at every level
 empty-levels : (l : ℕ) (fss : List (List File)) → ((f : File) → In f (join fss) → before (f .largest) (f .smallest) ≡ false) → levelwise inOrder l fss ≡ true → survivorsFrom emptyEdit l fss ≡ fss
 unfolding survivorsFrom levelwise join
 empty-levels l [] g h = refl
@@ -334,6 +335,7 @@ empty-edit p s h =
     none-many a b c = rw (le-leb 0 a (omega arith), le-leb 0 b (omega arith), le-leb 0 c (omega arith))
 
 -- ---- counter calls
+-- an accepted counter call keeps the counters bounded
 counted-bounded : (d : CounterCall) (c : Counters) → counterBeyond d c ≡ false → ((n : ℕ) → In n (fiveOf c) → n ≤ maxCounter) → (n : ℕ) → In n (fiveOf (counted d c)) → n ≤ maxCounter
 unfolding counted counterBeyond fiveOf
 counted-bounded new c b h = let r = five (c .next) (c .manifest) (c .last) (c .log) (c .previous) .0 h in

@@ -1,4 +1,4 @@
--- What a history leaves in the state is what is read from its accepted calls. Assumes nothing.
+-- The state that a history leaves is what its events say. Assumes nothing.
 use Prim.Native.Nat.{ℕ, _<_}
 use mathlib.Core.Path.{_≡_, refl, ap, sym, _∙_, subst}
 use mathlib.Core.Logic.{_↔_, _⊎_, inl, inr}
@@ -25,10 +25,11 @@ use Rattle.model.specs.PickLaws.{pick-after-size, pick-after-range}
 
 -- ---- one call
 module _ (p : Profile) (s : State) (l : ℕ) (inside : l < length (s .files)) (f : File) where
-  -- what one call leaves at the level, by what it did
+  -- the file is at the level afterwards exactly if it was there and is not deleted, or was added
   abbrev One : List Event → State → Type 0
   One vs t = In f (level t l) ↔ ((In f (level s l) × Unharmed vs l (f .number)) ⊎ Stays vs l f)
 
+  -- a call that leaves the level as it was
   nothing-done : (t : State) → level t l ≡ level s l → (vs : List Event) → Unharmed vs l (f .number) → (Stays vs l f → ⊥) → One vs t
   nothing-done t e vs u n = (λ m. inl (subst (λ (fs : List File). In f fs) e m, u), λ h. go h)
     where
@@ -36,6 +37,7 @@ module _ (p : Profile) (s : State) (l : ℕ) (inside : l < length (s .files)) (f
       go (inl h) = subst (λ (fs : List File). In f fs) (sym e) (h .0)
       go (inr h) = absurd (n h)
 
+  -- an accepted edit
   edited-one : (e : Edit) (t : State) → edit p s e ≡ gives t → One (didEdit e ∷ []) t
   unfolding applied level
   edited-one e t h =
@@ -61,23 +63,27 @@ module _ (p : Profile) (s : State) (l : ℕ) (inside : l < length (s .files)) (f
       to d (inr (inl m)) = inr (m .0)
       to d (inr (inr z)) = absurd z
 
--- ---- one call, whichever
+-- ---- any one call
 module _ (p : Profile) (s : State) (l : ℕ) (inside : l < length (s .files)) (f : File) where
+  -- an edit, accepted or refused
   edit-one : (e : Edit) (o : Answer State) → edit p s e ≡ o → One p s l inside f (did o (didEdit e)) (kept s o)
   unfolding did kept
   edit-one e (gives t) h = edited-one p s l inside f e t h
   edit-one e (refused n) h = nothing-done p s l inside f s refl [] tt (λ z. z)
 
+  -- a counter call
   count-one : (c : CounterCall) (o : Answer State) → counter p s c ≡ o → One p s l inside f (did o (didCount c)) (kept s o)
   unfolding did kept level setCounters
   count-one c (gives t) h = nothing-done p s l inside f t (ap (λ (u : State). getD (u .files) l []) (sym (count-accepted p s c t h .result))) (didCount c ∷ []) tt (λ z. z)
   count-one c (refused n) h = nothing-done p s l inside f s refl [] tt (λ z. z)
 
+  -- a pick
   pick-one : (o : Answer Pick) → ((k : Pick) → o ≡ gives k → k .after ≡ setPointer s (k .picked .level) (highKey (k .picked .first))) → One p s l inside f (didPick o) (keptPick s o)
   unfolding didPick keptPick level setPointer
   pick-one (gives k) h = nothing-done p s l inside f (k .after) (ap (λ (u : State). getD (u .files) l []) (h k refl)) (didPoint (k .picked .level) (highKey (k .picked .first)) ∷ []) tt (λ z. z)
   pick-one (refused n) h = nothing-done p s l inside f s refl [] tt (λ z. z)
 
+  -- any call
   pub call-one : (c : Call) → One p s l inside f (event p s c) (after p s c)
   unfolding event after
   call-one (edits e) = edit-one e (edit p s e) refl
@@ -85,7 +91,7 @@ module _ (p : Profile) (s : State) (l : ℕ) (inside : l < length (s .files)) (f
   call-one (picksRange m j a b) = pick-one (manualPick p s m j a b) (pick-after-range p s m j a b)
   call-one (counts c) = count-one c (counter p s c) refl
 
--- the number of levels stays
+-- a call keeps the number of levels
 pub call-levels : (p : Profile) (s : State) (c : Call) → length (after p s c .files) ≡ length (s .files)
 unfolding after kept keptPick applied setPointer setCounters
 call-levels p s (edits e) = go (edit p s e) refl
@@ -109,7 +115,8 @@ call-levels p s (counts c) = go (counter p s c) refl
     go (gives t) h = ap (λ (u : State). length (u .files)) (sym (count-accepted p s c t h .result))
     go (refused n) h = refl
 
--- ---- events one after another
+-- ---- two lists of events joined
+-- joined they delete a number exactly if one of them does
 unharmed-append : (vs ws : List Event) (l n : ℕ) → Unharmed (vs ++ ws) l n ↔ (Unharmed vs l n × Unharmed ws l n)
 unharmed-append [] ws l n = (λ u. (tt, u), λ u. u .1)
 unharmed-append (didEdit e ∷ vs) ws l n = let r = unharmed-append vs ws l n in
@@ -117,7 +124,7 @@ unharmed-append (didEdit e ∷ vs) ws l n = let r = unharmed-append vs ws l n in
 unharmed-append (didPoint j k ∷ vs) ws l n = unharmed-append vs ws l n
 unharmed-append (didCount c ∷ vs) ws l n = unharmed-append vs ws l n
 
--- a file stays after both: it stays after the first and the second leaves it, or the second adds it
+-- a file stays after both if it stays after the first and the second does not delete it, or the second adds it
 stays-append : (vs ws : List Event) (l : ℕ) (f : File) → Stays (vs ++ ws) l f ↔ ((Stays vs l f × Unharmed ws l (f .number)) ⊎ Stays ws l f)
 stays-append [] ws l f = (λ h. inr h, λ h. go h)
   where
@@ -148,6 +155,7 @@ stays-append (didPoint j k ∷ vs) ws l f = stays-append vs ws l f
 stays-append (didCount c ∷ vs) ws l f = stays-append vs ws l f
 
 -- ---- a history
+-- a file is at a level afterwards exactly if it was there and is not deleted, or was added and stays
 pub run-stays : (p : Profile) (s : State) (cs : List Call) (l : ℕ) → l < length (s .files) → (f : File)
     → In f (level (run p s cs) l) ↔ ((In f (level s l) × Unharmed (events p s cs) l (f .number)) ⊎ Stays (events p s cs) l f)
 unfolding run events
@@ -202,6 +210,7 @@ fresh-stays p cs l h f =
     go (inr a) = a
 
 -- ---- counters
+-- after two lists of events joined
 countersLeft-append : (vs ws : List Event) (c : Counters) → countersLeft (vs ++ ws) c ≡ countersLeft ws (countersLeft vs c)
 unfolding countersLeft
 countersLeft-append [] ws c = refl
@@ -209,7 +218,7 @@ countersLeft-append (didEdit e ∷ vs) ws c = countersLeft-append vs ws (logged 
 countersLeft-append (didPoint j k ∷ vs) ws c = countersLeft-append vs ws c
 countersLeft-append (didCount d ∷ vs) ws c = countersLeft-append vs ws (counted d c)
 
--- one call
+-- after one call
 call-counters : (p : Profile) (s : State) (c : Call) → after p s c .counters ≡ countersLeft (event p s c) (s .counters)
 unfolding after event kept keptPick did didPick countersLeft applied setPointer setCounters
 call-counters p s (edits e) = go (edit p s e) refl
@@ -233,7 +242,7 @@ call-counters p s (counts c) = go (counter p s c) refl
     go (gives t) h = ap (λ (u : State). u .counters) (sym (count-accepted p s c t h .result))
     go (refused n) h = refl
 
--- a history leaves the counters that are read from it
+-- after a history: as the events say
 pub run-counters : (p : Profile) (s : State) (cs : List Call) → run p s cs .counters ≡ countersLeft (events p s cs) (s .counters)
 unfolding run events countersLeft
 run-counters p s [] = refl
@@ -242,14 +251,14 @@ run-counters p s (c ∷ cs) = run-counters p (after p s c) cs
     ∙ sym (countersLeft-append (event p s c) (events p (after p s c) cs) (s .counters))
 
 -- ---- pointers
--- what the pointers of an edit leave at a level
+-- after the pointers of an edit: the last for the level
 pointed-at : (qs : List Pointer) (ps : List (Option Key)) (l : ℕ) → l < length ps → getD (pointed qs ps) l none ≡ lastOf qs l (getD ps l none)
 unfolding pointed lastOf
 pointed-at [] ps l h = refl
 pointed-at (q ∷ qs) ps l h = pointed-at qs (set ps (q .level) (some (q .key))) l (omega (arith, length-set ps (q .level) (some (q .key))))
     ∙ ap (λ (o : Option Key). lastOf qs l o) (getD-set ps (q .level) l (some (q .key)) none h)
 
--- one list of events after another
+-- after two lists of events joined
 pointerLeft-append : (vs ws : List Event) (l : ℕ) (o : Option Key) → pointerLeft (vs ++ ws) l o ≡ pointerLeft ws l (pointerLeft vs l o)
 unfolding pointerLeft
 pointerLeft-append [] ws l o = refl
@@ -257,12 +266,12 @@ pointerLeft-append (didEdit e ∷ vs) ws l o = pointerLeft-append vs ws l (lastO
 pointerLeft-append (didPoint j k ∷ vs) ws l o = pointerLeft-append vs ws l (cond (eqb j l) (some k) o)
 pointerLeft-append (didCount d ∷ vs) ws l o = pointerLeft-append vs ws l o
 
--- what one call leaves at a pointer, and that their number stays
+-- a call leaves each pointer as its events say, and keeps their number
 pub record Pointing (s t : State) (vs : List Event) : Type 0 where
   pub same-length : length (t .pointers) ≡ length (s .pointers)
   pub at : (l : ℕ) → l < length (s .pointers) → pointer t l ≡ pointerLeft vs l (pointer s l)
 
--- a call that moves no pointer
+-- a call that sets no pointer
 unmoved : (s t : State) (vs : List Event) → t .pointers ≡ s .pointers → ((l : ℕ) (o : Option Key) → pointerLeft vs l o ≡ o) → Pointing s t vs
 unfolding pointer
 unmoved s t vs e u = record {
@@ -270,7 +279,7 @@ unmoved s t vs e u = record {
   at = λ l h. ap (λ (x : List (Option Key)). getD x l none) e ∙ sym (u l (getD (s .pointers) l none));
 }
 
--- an accepted pick moves one
+-- an accepted pick sets one
 pick-pointing : (p : Profile) (s : State) (k : Pick) → k .after ≡ setPointer s (k .picked .level) (highKey (k .picked .first))
     → Pointing s (k .after) (didPoint (k .picked .level) (highKey (k .picked .first)) ∷ [])
 unfolding pointerLeft setPointer pointer
@@ -279,7 +288,7 @@ pick-pointing p s k e = record {
   at = λ l i. ap (λ (u : State). getD (u .pointers) l none) e ∙ getD-set (s .pointers) (k .picked .level) l (some (highKey (k .picked .first))) none i;
 }
 
--- one call, whichever
+-- any call
 call-pointing : (p : Profile) (s : State) (c : Call) → Pointing s (after p s c) (event p s c)
 unfolding after event kept keptPick did didPick pointerLeft applied setPointer setCounters pointer
 call-pointing p s (edits e) = go (edit p s e) refl
@@ -306,7 +315,7 @@ call-pointing p s (counts c) = go (counter p s c) refl
     go (gives t) h = unmoved s t (didCount c ∷ []) (ap (λ (u : State). u .pointers) (sym (count-accepted p s c t h .result))) (λ l o. refl)
     go (refused n) h = unmoved s s [] refl (λ l o. refl)
 
--- a history leaves the pointers that are read from it
+-- after a history: as the events say
 pub run-pointers : (p : Profile) (s : State) (cs : List Call) (l : ℕ) → l < length (s .pointers) → pointer (run p s cs) l ≡ pointerLeft (events p s cs) l (pointer s l)
 unfolding run events pointerLeft
 run-pointers p s [] l h = refl

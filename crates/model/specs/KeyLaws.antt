@@ -1,27 +1,68 @@
--- Laws of keys: what the tests on them say, what the order weighs, and a key's parts. Assumes nothing.
+-- Laws of keys: what the tests say, what the order weighs, and a key's parts. Assumes nothing.
 use Prim.Native.Nat.{ℕ, _+_, _*_, _-_, _^_, _<_, _≤_}
-use mathlib.Core.Path.{_≡_}
+use mathlib.Core.Path.{_≡_, refl}
 use mathlib.Core.Logic.{_↔_}
-use mathlib.Core.Bool.{true, false, _&&_}
+use mathlib.Core.Bool.{Bool, true, false, _&&_}
 use mathlib.Core.List.{List, _++_}
-use borrow.Author.Tests.{lt-ltb, leb-true, le-leb}
-use lib.Dec.{leb}
+use borrow.Author.Tests.{lt-ltb, ltb-false, leb-true, le-leb}
+use lib.Dec.{ltb, leb}
 use lib.ListN.{length, length-append}
 use lib.Pow.{areBytes}
 use lib.Seq.{take-at, drop-at}
 use native.Mathlib.Omega.{arith}
-use Rattle.lemmas.specs.Order.{byFirst, nat-order}
+use Rattle.lemmas.specs.Order.{StrictWeak, clash, byFirst, nat-order, flip-order, on-order, then-order, lex-order, lex-same, first-keys}
 use Rattle.lemmas.specs.ListLaws.{and-left, and-right, both}
 use Rattle.lemmas.specs.Little.{bytes, bytes-length, bytes-number}
-use Rattle.model.specs.Key.{Key, user, trailer, sequence, kind, key, goodUser, goodKey, userBefore, rank, before, userBefore-order}
+use Rattle.model.specs.Key.{Key, user, trailer, sequence, kind, key, goodUser, goodKey, userBefore, rank, before}
+
+-- ---- laws of the order
+-- the order of user keys is a strict weak order
+pub userBefore-order : StrictWeak userBefore
+unfolding userBefore
+userBefore-order = lex-order
+
+-- the order of internal keys is a strict weak order
+pub before-order : StrictWeak before
+unfolding before
+before-order = then-order (λ a b. userBefore (user a) (user b)) (λ a b. ltb (rank b) (rank a))
+    (on-order userBefore user userBefore-order) (on-order (λ a b. ltb b a) rank (flip-order ltb nat-order))
+
+-- user keys equal in order are the same bytes
+pub user-same : (a b : List ℕ) → userBefore a b ≡ false → userBefore b a ≡ false → a ≡ b
+unfolding userBefore
+user-same = lex-same
+
+-- a key that is not after another has a user key that is not after the other's
+pub before-user : (a b : Key) → before b a ≡ false → userBefore (user b) (user a) ≡ false
+unfolding before
+before-user a b h = first-keys userBefore userBefore-order (user b) (user a) (ltb (rank a) (rank b)) h
+
+-- equal in order: the same user key and the same rank
+pub record SameInOrder (a b : Key) : Type 0 where
+  pub users : user a ≡ user b
+  pub ranks : rank a ≡ rank b
+
+-- keys of which neither is before the other are equal in order
+pub before-same : (a b : Key) → before a b ≡ false → before b a ≡ false → SameInOrder a b
+unfolding before byFirst
+before-same a b h k = go (userBefore (user a) (user b)) (userBefore (user b) (user a)) refl refl
+  where
+    go : (s t : Bool) → userBefore (user a) (user b) ≡ s → userBefore (user b) (user a) ≡ t → SameInOrder a b
+    go true t e f = clash (rw e) h
+    go false true e f = clash (rw f) k
+    go false false e f =
+        let p : ltb (rank b) (rank a) ≡ false = rw (e, f) at h in
+        let q : ltb (rank a) (rank b) ≡ false = rw (e, f) at k in
+        record { users = user-same (user a) (user b) e f; ranks = omega (arith, ltb-false (rank b) (rank a) p, ltb-false (rank a) (rank b) q) }
 
 -- ---- what the tests say
+-- a good user key, part by part
 pub record GoodUser (longest : ℕ) (u : List ℕ) : Type 0 where
   pub some-byte : 1 ≤ length u
   pub few-bytes : length u ≤ longest
   pub bytes : areBytes u ≡ true
 
--- the test says just that
+-- the test holds exactly if each part does
 pub goodUser-says : (longest : ℕ) (u : List ℕ) → goodUser longest u ≡ true ↔ GoodUser longest u
 unfolding goodUser
 goodUser-says longest u =
@@ -39,7 +80,7 @@ pub record GoodKey (longest : ℕ) (k : Key) : Type 0 where
   pub bytes : areBytes k ≡ true
   pub kind : kind k ≤ 1
 
--- the test says just that
+-- the test holds exactly if each part does
 pub goodKey-says : (longest : ℕ) (k : Key) → goodKey longest k ≡ true ↔ GoodKey longest k
 unfolding goodKey
 goodKey-says longest k =
@@ -63,7 +104,7 @@ kind-unweighed a b u s =
     let f : userBefore (user b) (user a) ≡ false = rw u (userBefore-order .irrefl (user b)) in
     rw (e, f) (rw s (nat-order .irrefl (sequence b)))
 
--- the larger sequence is before the smaller, of one user key
+-- of keys with one user key the larger sequence is first
 pub larger-first : (a b : Key) → user a ≡ user b → sequence b < sequence a → before a b ≡ true
 unfolding before rank byFirst
 larger-first a b u s =
@@ -71,7 +112,8 @@ larger-first a b u s =
     let f : userBefore (user b) (user a) ≡ false = rw u (userBefore-order .irrefl (user b)) in
     rw (e, f) (lt-ltb (sequence b) (sequence a) s)
 
--- ---- a key made of its parts has them
+-- ---- a key made of its parts
+-- its user key
 pub key-user : (u : List ℕ) (s t : ℕ) → user (key u s t) ≡ u
 unfolding user key
 key-user u s t = take-at u (bytes 8 (s * 256 + t)) (length (u ++ bytes 8 (s * 256 + t)) - 8) (omega (arith, length-append u (bytes 8 (s * 256 + t)), bytes-length 8 (s * 256 + t)))

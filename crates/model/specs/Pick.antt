@@ -1,4 +1,4 @@
--- What to compact: the inputs of a size pick and of a manual pick, growth, grandparents, the two picks, and what is asked of a picked answer. Assumes nothing.
+-- What to compact: the inputs of a size pick and of a manual pick, growth, grandparents, the two picks, and the calls on a picked answer. Assumes nothing.
 use Prim.Native.Nat.{ℕ, zero, suc, _+_, _*_, _^_}
 use mathlib.Core.Bool.{Bool, cond, true, false, not, _&&_, _||_}
 use mathlib.Core.List.{List, [], _∷_, _++_, map, Option·toList}
@@ -25,28 +25,28 @@ unfoldable pub startFile : Option Key → List File → Option File
 startFile none fs = firstFile fs
 startFile (some k) fs = orElse (find (λ f. before k (f .largest)) fs) (firstFile fs)
 
--- the first inputs of a size pick: that file; at level 0 the widening of its range replaces it
+-- the first inputs of a size pick: that file. At level 0 the files overlapping the widening of its range replace it
 unfoldable pub sizeInputs : ℕ → Option Key → List File → List File
 sizeInputs zero ptr fs = overlapping 0 fs (rangeOf (Option·toList (startFile ptr fs)))
 sizeInputs (suc l) ptr fs = Option·toList (startFile ptr fs)
 
--- stop after the first file that brings the total, t so far, above m
+-- stops after the first file that brings the total, t so far, above m
 unfoldable pub upTo : ℕ → ℕ → List File → List File
 upTo m t [] = []
 upTo m t (f ∷ fs) = f ∷ cond (ltb m (t + f .size)) [] (upTo m (t + f .size) fs)
 
--- the first inputs of a manual pick: the files overlapping its range; above level 0 it stops at the maximum file size m
+-- the first inputs of a manual pick: the files overlapping its range. Above level 0 it stops at the maximum file size m
 unfoldable pub manualInputs : ℕ → ℕ → List File → Range → List File
 manualInputs m zero fs r = overlapping 0 fs r
 manualInputs m (suc l) fs r = upTo m 0 (overlapping (suc l) fs r)
 
 -- ---- the answer of a pick
--- its cause: size with the score reported, or manual
+-- its cause: size with the reported score, or manual
 pub data Cause : Type 0 where
   bySize : Float → Cause
   manual : Cause
 
--- its level, cause, maximum file size, first and second inputs, grandparents
+-- a picked answer: level, cause, maximum file size, first and second inputs, grandparents
 pub record Picked : Type 0 where
   pub level : ℕ
   pub cause : Cause
@@ -60,24 +60,24 @@ pub record Pick : Type 0 where
   pub picked : Picked
   pub after : State
 
--- grandparents overlap the range at level + 2; the last level but one has none
+-- grandparents overlap the range at level + 2. The last level but one has none
 unfoldable pub grandOf : Profile → State → ℕ → Range → List File
 grandOf p s l r = cond (ltb (l + 2) (p .levels)) (overlapping (l + 2) (level s (l + 2)) r) []
 
--- there are second inputs, the grown files are more in number, their bytes and the second inputs' together are below 25 m,
--- and their own range overlaps equally many files of level + 1
+-- growth is allowed: there are second inputs, the grown files are more in number, their bytes and the second inputs' together are below 25 m, and their own range
+-- overlaps equally many files of level + 1
 unfoldable pub grows : ℕ → List File → List File → List File → List File → Bool
 grows m first second grown again = not (isEmpty second) && ltb (length first) (length grown)
     && ltb (total grown + total second) (25 * m) && eqb (length again) (length second)
 
--- the level's files overlapping the joint range replace the first inputs when they grow
+-- the level's files overlapping the joint range replace the first inputs where growth is allowed
 unfoldable pub grownFirst : State → ℕ → ℕ → List File → List File → List File
 grownFirst s m l first second =
     let grown = overlapping l (level s l) (rangeOf (first ++ second)) in
     let again = overlapping (suc l) (level s (suc l)) (rangeOf grown) in
     cond (grows m first second grown again) grown first
 
--- second inputs are those of level + 1 that overlap; the level's pointer becomes the first inputs' largest key
+-- a pick from its first inputs: second inputs are those of level + 1 that overlap, and the level's pointer becomes the first inputs' largest key
 unfoldable pub complete : Profile → State → ℕ → Cause → ℕ → List File → Pick
 complete p s m c l first =
     let second = overlapping (suc l) (level s (suc l)) (rangeOf first) in
@@ -87,19 +87,23 @@ complete p s m c l first =
       after = setPointer s l (highKey first′);
     }
 
--- the maximum file size is not 1 to 2^32
+-- the largest maximum file size
+abbrev pub largestMaximum : ℕ
+largestMaximum = 2 ^ 32
+
+-- the maximum file size is 0 or above the largest
 unfoldable pub badMaximum : ℕ → Bool
-badMaximum m = not (leb 1 m && leb m (2 ^ 32))
+badMaximum m = not (leb 1 m && leb m largestMaximum)
 
 -- ---- the two picks
--- a size pick: 14, 9, 10
+-- a size pick. Refusals: 14, 9, 10
 unfoldable pub sizePick : Profile → State → ℕ → Answer Pick
 sizePick p s m =
     let l = levelToCompact p s in
     firstOf ((not (wellFormed p s) ⇒ 14) ∷ (badMaximum m ⇒ 9) ∷ (not (due (score s l)) ⇒ 10) ∷ [])
     (complete p s m (bySize (reported (score s l))) l (sizeInputs l (pointer s l) (level s l)))
 
--- a manual pick: 14, 1, 2, 9, 11, 10
+-- a manual pick. Refusals: 14, 1, 2, 9, 11, 10
 unfoldable pub manualPick : Profile → State → ℕ → ℕ → Key → Key → Answer Pick
 manualPick p s m l a b =
     let first = manualInputs m l (level s l) (between a b) in
@@ -107,7 +111,7 @@ manualPick p s m l a b =
     ∷ (badMaximum m ⇒ 9) ∷ (eqb (suc l) (p .levels) ⇒ 11) ∷ (isEmpty first ⇒ 10) ∷ [])
     (complete p s m manual l first)
 
--- ---- what is asked of what a caller lends
+-- ---- well-formed arguments
 -- a list of one level
 unfoldable pub goodLevel : Profile → ℕ → List File → Bool
 goodLevel p l fs = all (λ f. goodFile p f && ltb (f .number) (2 ^ 64)) fs && distinct (numbers fs) && leb (length fs) (p .room) && inOrder l fs
@@ -120,8 +124,8 @@ goodPicked p c = ltb (suc (c .level)) (p .levels) && not (badMaximum (c .maximum
     && goodLevel p (c .level) (c .first) && goodLevel p (suc (c .level)) (c .second) && goodLevel p (c .level + 2) (c .grand)
     && leb (length (c .first) + length (c .second) + length (c .grand)) (p .room)
 
--- ---- of a picked answer
--- whether its cause is manual
+-- ---- calls on a picked answer
+-- its cause is manual
 unfoldable pub isManual : Cause → Bool
 isManual (bySize c) = false
 isManual manual = true

@@ -11,7 +11,8 @@ use native.Mathlib.Omega.{arith}
 use Rattle.lemmas.specs.Order.{clash}
 use Rattle.lemmas.specs.Lists.{keep, find, isEmpty, sum}
 use Rattle.lemmas.specs.ListLaws.{and-left, and-right, find-some, keep-in, join-in, set-in, Sub, end, also, sub-none, sub-keep, sub-one, sub-trans, sub-in, keep-sub, sub-same, in-nonempty, longer-nonempty}
-use Rattle.model.specs.Key.{Key, goodKey, before, before-order, before-user}
+use Rattle.model.specs.Key.{Key, goodKey, before}
+use Rattle.model.specs.KeyLaws.{before-order, before-user}
 use Rattle.model.specs.Answer.{gives, _⇒_}
 use Rattle.model.specs.File.{Profile, File, State, level, pointer, total, goodFile, goodPointer, wellFormed, setPointer}
 use Rattle.model.specs.Score.{byteLimit, score, levelToCompact, due, reported}
@@ -22,9 +23,10 @@ use Rattle.model.specs.RangeLaws.{overlaps-says, overlaps-mono, widen-le
 use Rattle.model.specs.Formed.{WF, formed-says, goodFile-says, goodFile-order}
 use Rattle.model.specs.ScoreLaws.{ten-pow}
 
--- Laws of picks: what an accepted pick gives, that its inputs are files of their levels, and that it keeps a state well-formed. Assumes nothing.
+-- Laws of picks: what an accepted pick returns, that its inputs are files of their levels, and that it keeps a state well-formed. Assumes nothing.
 
--- ---- accepted picks and counter calls: what they give
+-- ---- accepted picks
+-- an accepted size pick: its result, and no refusal applies
 pub record Sized (p : Profile) (s : State) (m : ℕ) (k : Pick) : Type 0 where
   pub result : complete p s m (bySize (reported (score s (levelToCompact p s)))) (levelToCompact p s)
       (sizeInputs (levelToCompact p s) (pointer s (levelToCompact p s)) (level s (levelToCompact p s))) ≡ k
@@ -32,7 +34,7 @@ pub record Sized (p : Profile) (s : State) (m : ℕ) (k : Pick) : Type 0 where
   pub maximum : badMaximum m ≡ false
   pub is-due : due (score s (levelToCompact p s)) ≡ true
 
--- what an accepted size pick says
+-- a size pick that gives a result was accepted so
 pub size-accepted : (p : Profile) (s : State) (m : ℕ) (k : Pick) → sizePick p s m ≡ gives k → Sized p s m k
 unfolding sizePick _⇒_
 size-accepted p s m k h =
@@ -46,7 +48,7 @@ size-accepted p s m k h =
       is-due = not-false (due (score s l)) (a .none-applies (not (due (score s l)) ⇒ 10) (there (there (here refl))));
     }
 
--- an accepted manual pick
+-- an accepted manual pick: its result, and no refusal applies
 pub record Ranged (p : Profile) (s : State) (m l : ℕ) (a b : Key) (k : Pick) : Type 0 where
   pub result : complete p s m manual l (manualInputs m l (level s l) (between a b)) ≡ k
   pub formed : wellFormed p s ≡ true
@@ -55,7 +57,7 @@ pub record Ranged (p : Profile) (s : State) (m l : ℕ) (a b : Key) (k : Pick) :
   pub not-last : eqb (suc l) (p .levels) ≡ false
   pub some-input : isEmpty (manualInputs m l (level s l) (between a b)) ≡ false
 
--- what an accepted manual pick says
+-- a manual pick that gives a result was accepted so
 pub range-accepted : (p : Profile) (s : State) (m l : ℕ) (a b : Key) (k : Pick) → manualPick p s m l a b ≡ gives k → Ranged p s m l a b k
 unfolding manualPick _⇒_
 range-accepted p s m l a b k h =
@@ -85,13 +87,14 @@ pick-after-size p s m k h =
     subst (λ (x : Pick). x .after ≡ setPointer s (x .picked .level) (highKey (x .picked .first))) (size-accepted p s m k h .result)
     (complete-after p s m (bySize (reported (score s l))) l (sizeInputs l (pointer s l) (level s l)))
 
--- a manual pick alike
+-- the same for a manual pick
 pub pick-after-range : (p : Profile) (s : State) (m l : ℕ) (a b : Key) (k : Pick) → manualPick p s m l a b ≡ gives k → k .after ≡ setPointer s (k .picked .level) (highKey (k .picked .first))
 pick-after-range p s m l a b k h =
     subst (λ (x : Pick). x .after ≡ setPointer s (x .picked .level) (highKey (x .picked .first))) (range-accepted p s m l a b k h .result)
     (complete-after p s m manual l (manualInputs m l (level s l) (between a b)))
 
 -- ---- every list of a pick is its level with some files left out
+-- the files that overlap a range
 pub overlapping-sub : (l : ℕ) (fs : List File) (r : Range) → Sub (overlapping l fs r) fs
 unfolding overlapping
 overlapping-sub zero fs r = sub-keep (overlaps (widen fs r)) fs
@@ -112,13 +115,13 @@ upTo-sub m t (f ∷ fs) = also (go (upTo-sub m (t + f .size) fs) (ltb m (t + f .
     go ih true = sub-none fs
     go ih false = ih
 
--- the start file is one of the level's
+-- the first file of a list is in the list
 first-in : (fs : List File) (f : File) → firstFile fs ≡ some f → In f fs
 unfolding firstFile
 first-in [] f e = let z : true ≡ false = cc in clash refl z
 first-in (g ∷ gs) f e = let q : f ≡ g = cc in here q
 
--- the start file, by the pointer
+-- the start file is in the list
 start-in : (o : Option Key) (fs : List File) (f : File) → startFile o fs ≡ some f → In f fs
 unfolding startFile orElse
 start-in none fs f e = first-in fs f e
@@ -128,7 +131,7 @@ start-in (some k) fs f e = go (find (λ h. before k (h .largest)) fs) refl e
     go none q r = first-in fs f r
     go (some h) q r = let s : h ≡ f = cc in subst (λ (x : File). In x fs) s (find-some (λ h. before k (h .largest)) fs h q .1)
 
--- as a list
+-- the same as a list
 start-sub : (o : Option Key) (fs : List File) → Sub (Option·toList (startFile o fs)) fs
 unfolding Option·toList
 start-sub o fs = go (startFile o fs) refl
@@ -164,13 +167,13 @@ grown-sub s m l first second h = go (grows m first second grown again)
     go true = overlapping-sub l (level s l) (rangeOf (first ++ second))
     go false = h
 
--- a level with a file has a start file
+-- the start file, and that it is in the list
 record Start (o : Option Key) (fs : List File) : Type 0 where
   file : File
   among : In file fs
   alone : startFile o fs ≡ some file
 
--- there is one
+-- a level with a file has a start file
 start : (o : Option Key) (fs : List File) → isEmpty fs ≡ false → Start o fs
 unfolding isEmpty startFile firstFile orElse
 start o [] e = clash refl e
@@ -188,7 +191,7 @@ own-range p f h =
     let q = before-user (f .smallest) (f .largest) (goodFile-order p f h) in
     overlaps-says (rangeOf (f ∷ [])) f .1 record { left = rw low-fold q; right = rw high-fold q }
 
--- where work is due the level has a file
+-- if work is due, the level has a file
 pub due-nonempty : (s : State) (l : ℕ) → due (score s l) ≡ true → isEmpty (level s l) ≡ false
 unfolding due score byteLimit total sum isEmpty
 due-nonempty s zero h = go (level s 0) (leb-true 4 (length (level s 0)) h)
@@ -217,7 +220,7 @@ size-nonempty p zero o fs g e =
 size-nonempty p (suc l) o fs g e = let s = start o fs e in rw (s .alone) (in-nonempty (here {x = s .file} {xs = []} refl))
 
 -- ---- growth
--- growth leaves a first input
+-- after growth there is still a first input
 pub grown-nonempty : (s : State) (m l : ℕ) (first second : List File) → isEmpty first ≡ false → isEmpty (grownFirst s m l first second) ≡ false
 unfolding grownFirst grows
 grown-nonempty s m l first second h = go (grows m first second grown again) refl
@@ -238,6 +241,7 @@ grown-nonempty s m l first second h = go (grows m first second grown again) refl
     go false k = h
 
 -- ---- the pointer that a pick sets is a good key
+-- the largest key of good files, from a good key on
 largestOf-good : (p : Profile) (k : Key) (fs : List File) → goodKey (p .longest) k ≡ true → ((f : File) → In f fs → goodFile p f ≡ true) → goodKey (p .longest) (largestOf k fs) ≡ true
 unfolding largestOf
 largestOf-good p k [] h g = h
@@ -317,7 +321,7 @@ grand-sub p s l r = go (ltb (l + 2) (p .levels))
     go true = overlapping-sub (l + 2) (level s (l + 2)) r
     go false = sub-none (level s (l + 2))
 
--- so are the lists of a pick
+-- the lists of a pick are parts of their levels
 complete-of-level : (p : Profile) (s : State) (m : ℕ) (c : Cause) (l : ℕ) (first : List File) → Sub first (level s l) → OfLevel s (complete p s m c l first .picked)
 unfolding complete
 complete-of-level p s m c l first h =
@@ -328,25 +332,25 @@ complete-of-level p s m c l first h =
       grand = grand-sub p s l (rangeOf (grownFirst s m l first second ++ second));
     }
 
--- of a size pick
+-- the same for a size pick
 pub size-inputs-of-level : (p : Profile) (s : State) (m : ℕ) (k : Pick) → sizePick p s m ≡ gives k → OfLevel s (k .picked)
 size-inputs-of-level p s m k h =
     let l = levelToCompact p s in
     subst (λ (x : Pick). OfLevel s (x .picked)) (size-accepted p s m k h .result)
     (complete-of-level p s m (bySize (reported (score s l))) l (sizeInputs l (pointer s l) (level s l)) (size-sub l (pointer s l) (level s l)))
 
--- of a manual pick
+-- the same for a manual pick
 pub range-inputs-of-level : (p : Profile) (s : State) (m l : ℕ) (a b : Key) (k : Pick) → manualPick p s m l a b ≡ gives k → OfLevel s (k .picked)
 range-inputs-of-level p s m l a b k h =
     subst (λ (x : Pick). OfLevel s (x .picked)) (range-accepted p s m l a b k h .result)
     (complete-of-level p s m manual l (manualInputs m l (level s l) (between a b)) (manual-sub m l (level s l) (between a b)))
 
--- there is a first input
+-- a pick from some first inputs has a first input
 complete-nonempty : (p : Profile) (s : State) (m : ℕ) (c : Cause) (l : ℕ) (first : List File) → isEmpty first ≡ false → isEmpty (complete p s m c l first .picked .first) ≡ false
 unfolding complete
 complete-nonempty p s m c l first e = grown-nonempty s m l first (overlapping (suc l) (level s (suc l)) (rangeOf first)) e
 
--- of a size pick
+-- a size pick has one
 pub size-first-nonempty : (p : Profile) (s : State) (m : ℕ) (k : Pick) → sizePick p s m ≡ gives k → isEmpty (k .picked .first) ≡ false
 unfolding level
 size-first-nonempty p s m k h =
@@ -357,7 +361,7 @@ size-first-nonempty p s m k h =
     (complete-nonempty p s m (bySize (reported (score s l))) l (sizeInputs l (pointer s l) (level s l))
     (size-nonempty p l (pointer s l) (level s l) (λ f i. w .good f (join-in (s .files) l f i)) (due-nonempty s l (a .is-due))))
 
--- of a manual pick
+-- a manual pick has one
 pub range-first-nonempty : (p : Profile) (s : State) (m l : ℕ) (a b : Key) (k : Pick) → manualPick p s m l a b ≡ gives k → isEmpty (k .picked .first) ≡ false
 range-first-nonempty p s m l a b k h =
     let r = range-accepted p s m l a b k h in
@@ -365,7 +369,7 @@ range-first-nonempty p s m l a b k h =
     (complete-nonempty p s m manual l (manualInputs m l (level s l) (between a b)) (r .some-input))
 
 -- ---- growth keeps the second inputs: the files of level + 1 that overlap the final first inputs' range are exactly the second inputs
--- a list of good files lies in its own range
+-- a list of good files overlaps its own range
 in-own-range : (fs : List File) → ((f : File) → In f fs → before (f .largest) (f .smallest) ≡ false) → (f : File) → In f fs → overlaps (rangeOf fs) f ≡ true
 unfolding rangeOf between
 in-own-range [] g f m = absurd (not-nil m)
@@ -378,7 +382,7 @@ in-own-range (x ∷ xs) g f m =
       right = before-user (f .smallest) (highKey (x ∷ xs)) (before-order .ntrans (highKey (x ∷ xs)) (f .largest) (f .smallest) hi own);
     }
 
--- a list within another has a range within the other's
+-- the range of some files of a list is within the range of the list
 range-within : (x y : File) (xs ys : List File) → ((f : File) → In f (x ∷ xs) → In f (y ∷ ys)) → Within (rangeOf (x ∷ xs)) (rangeOf (y ∷ ys))
 unfolding rangeOf between
 range-within x y xs ys h =
@@ -389,7 +393,7 @@ range-within x y xs ys h =
       stop = before-user (highKey (x ∷ xs)) (highKey (y ∷ ys)) (rw (hi .is) (highest y ys .greatest (hi .file) (h (hi .file) (hi .among))));
     }
 
--- a file of the level that overlaps the range is among the answer
+-- a file that overlaps the range is in the answer
 overlapping-keeps : (l : ℕ) (fs : List File) (r : Range) (f : File) → In f fs → overlaps r f ≡ true → In f (overlapping l fs r)
 unfolding overlapping
 overlapping-keeps zero fs r f m o = keep-in (overlaps (widen fs r)) fs f .1 (m, overlaps-mono r (widen fs r) f (widen-least fs r .contains) o)
@@ -435,7 +439,7 @@ same-overlap s m l x xs good good′ sub = go (grows m first second grown again)
         let n = eqb-true (length again) (length second) (and-right a (eqb (length again) (length second)) e) in
         sym (sub-same (keep-sub (overlaps (rangeOf first)) (overlaps (rangeOf grown)) (level s (suc l)) (λ f o. overlaps-mono (rangeOf first) (rangeOf grown) f w o)) (sym n))
 
--- for a pick from any first inputs
+-- the same for a pick from any first inputs
 complete-second-same : (p : Profile) (s : State) (m : ℕ) (c : Cause) (l : ℕ) (first : List File) → WF p s → Sub first (level s l) → isEmpty first ≡ false
     → overlapping (suc l) (level s (suc l)) (rangeOf (complete p s m c l first .picked .first)) ≡ complete p s m c l first .picked .second
 unfolding complete isEmpty level
@@ -443,7 +447,7 @@ complete-second-same p s m c l [] w sub e = clash refl e
 complete-second-same p s m c l (x ∷ xs) w sub e = same-overlap s m l x xs
     (λ f i. goodFile-order p f (w .good f (join-in (s .files) l f i))) (λ f i. goodFile-order p f (w .good f (join-in (s .files) (suc l) f i))) sub
 
--- for a size pick
+-- the same for a size pick
 pub size-second-same : (p : Profile) (s : State) (m : ℕ) (k : Pick) → sizePick p s m ≡ gives k
     → overlapping (suc (k .picked .level)) (level s (suc (k .picked .level))) (rangeOf (k .picked .first)) ≡ k .picked .second
 unfolding level complete
@@ -455,7 +459,7 @@ size-second-same p s m k h =
     (complete-second-same p s m (bySize (reported (score s l))) l (sizeInputs l (pointer s l) (level s l)) w (size-sub l (pointer s l) (level s l))
     (size-nonempty p l (pointer s l) (level s l) (λ f i. w .good f (join-in (s .files) l f i)) (due-nonempty s l (a .is-due))))
 
--- for a manual pick
+-- the same for a manual pick
 pub range-second-same : (p : Profile) (s : State) (m l : ℕ) (a b : Key) (k : Pick) → manualPick p s m l a b ≡ gives k
     → overlapping (suc (k .picked .level)) (level s (suc (k .picked .level))) (rangeOf (k .picked .first)) ≡ k .picked .second
 unfolding complete

@@ -11,7 +11,8 @@ use native.Mathlib.Omega.{arith}
 use Rattle.lemmas.specs.Order.{clash, le-lt}
 use Rattle.lemmas.specs.Lists.{any, all, chain, join, isEmpty, member, distinct, sum, upFrom}
 use Rattle.lemmas.specs.ListLaws.{and-left, and-right, both, all-in, join-in, join-length, any-in, or-right, upFrom-any, Sub, end, skip, also, sub-in, sub-length, sub-chain}
-use Rattle.model.specs.Key.{Key, before, before-order}
+use Rattle.model.specs.Key.{Key, before}
+use Rattle.model.specs.KeyLaws.{before-order}
 use Rattle.model.specs.Answer.{gives}
 use Rattle.model.specs.File.{Profile, File, State, level, pointer, total, numbers, bySmallest, goodFile, inOrder, levelwise}
 use Rattle.model.specs.Score.{score, levelToCompact, reported}
@@ -23,9 +24,9 @@ use Rattle.model.specs.Formed.{WF, formed-says, goodFile-order, distinct
 use Rattle.model.specs.ScoreLaws.{level-is}
 use Rattle.model.specs.PickLaws.{size-accepted, range-accepted, overlapping-sub, size-sub, manual-sub, grown-sub, due-nonempty, size-nonempty, grown-nonempty}
 
--- What the store answers it takes back: a picked answer is well-formed, and the cutter keeps its memory well-formed. Assumes nothing.
+-- Calls accept what other calls return: a picked answer is well-formed, and the cutter keeps its memory well-formed. Assumes nothing.
 
--- a number not in a list is in no part of it
+-- a number that is not in a list is not in a part of it
 sub-member : {xs ys : List File} (n : ℕ) → Sub xs ys → member n (numbers ys) ≡ false → member n (numbers xs) ≡ false
 unfolding member any numbers
 sub-member n end h = h
@@ -36,7 +37,7 @@ sub-member n (also {y = y} {xs = xs} {ys = ys} s) h = go (sub-member n s) (eqb (
     go ih true e = clash (rw e) h
     go ih false e = rw e (ih (rw e at h))
 
--- a part repeats no number
+-- a part of a list without repetition has none
 pub sub-distinct : {xs ys : List File} → Sub xs ys → distinct (numbers ys) ≡ true → distinct (numbers xs) ≡ true
 unfolding distinct numbers
 sub-distinct end h = h
@@ -54,6 +55,7 @@ sub-ordered (suc l) g s c = sub-chain (λ (f g : File). before (f .largest) (g .
     (λ f g h i a b. before-order .trans (f .largest) (g .smallest) (h .smallest) a (le-lt before before-order (g .smallest) (g .largest) (h .smallest) i b)) g s c
 
 -- ---- a part of a level of a well-formed state is a well-formed level
+-- a test of all levels holds at each
 pub levelwise-at : (p : ℕ → List File → Bool) (k : ℕ) (fss : List (List File)) (i : ℕ) → i < length fss → levelwise p k fss ≡ true → p (k + i) (getD fss i []) ≡ true
 unfolding levelwise
 levelwise-at p k [] i h c = absurd (omega arith)
@@ -61,7 +63,7 @@ levelwise-at p k (fs ∷ fss) zero h c = let e : k ≡ k + 0 = omega arith in su
 levelwise-at p k (fs ∷ fss) (suc i) h c = let e : suc k + i ≡ k + suc i = omega arith in
     subst (λ (n : ℕ). p n (getD fss i []) ≡ true) e (levelwise-at p (suc k) fss i (omega arith) (and-right (p k fs) (levelwise p (suc k) fss) c))
 
--- three levels hold no more files than there are
+-- three levels have no more files than all
 three-levels : (fss : List (List File)) (l : ℕ) → length (getD fss l []) + length (getD fss (suc l) []) + length (getD fss (suc (suc l)) []) ≤ length (join fss)
 unfolding join
 three-levels [] zero = omega arith
@@ -85,7 +87,7 @@ pub record GoodLevel (p : Profile) (l : ℕ) (fs : List File) : Type 0 where
   pub room : length fs ≤ p .room
   pub ordered : inOrder l fs ≡ true
 
--- the test says just that
+-- the test holds exactly if each part does
 pub goodLevel-says : (p : Profile) (l : ℕ) (fs : List File) → goodLevel p l fs ≡ true ↔ GoodLevel p l fs
 unfolding goodLevel
 goodLevel-says p l fs =
@@ -124,7 +126,7 @@ part-good p s l xs w h sub =
       ordered = sub-ordered l (λ f m. goodFile-order p f (w .good f (join-in (s .files) l f m))) sub ordered;
     }
 
--- what is asked of grandparents
+-- the conditions on grandparents
 record Grand (p : Profile) (s : State) (l : ℕ) (gs : List File) : Type 0 where
   room-for : (ltb (l + 2) (p .levels) || isEmpty gs) ≡ true
   good : goodLevel p (l + 2) gs ≡ true
@@ -136,7 +138,7 @@ unfolding goodLevel all distinct numbers inOrder chain
 empty-good p zero = both (leb 0 (p .room)) true (le-leb 0 (p .room) (omega arith)) refl
 empty-good p (suc l) = both (leb 0 (p .room)) true (le-leb 0 (p .room) (omega arith)) refl
 
--- grandparents of a pick are as asked
+-- the grandparents of a pick meet them
 grand-is : (p : Profile) (s : State) (l : ℕ) (r : Range) → WF p s → Grand p s l (grandOf p s l r)
 unfolding grandOf level isEmpty
 grand-is p s l r w = go (ltb (l + 2) (p .levels)) refl
@@ -164,7 +166,7 @@ pub record GoodPicked (p : Profile) (c : Picked) : Type 0 where
   pub grand : goodLevel p (c .level + 2) (c .grand) ≡ true
   pub room : length (c .first) + length (c .second) + length (c .grand) ≤ p .room
 
--- the test says just that
+-- the test holds exactly if each part does
 pub goodPicked-says : (p : Profile) (c : Picked) → goodPicked p c ≡ true ↔ GoodPicked p c
 unfolding goodPicked
 goodPicked-says p c =
@@ -198,7 +200,7 @@ goodPicked-says p c =
           (lt-ltb (suc (c .level)) (p .levels) (g .level)) (rw (g .maximum))) (rw (g .some-input))) (g .no-grand)) (g .first)) (g .second)) (g .grand)) (le-leb n (p .room) (g .room)),
     )
 
--- the answer of a pick is well-formed
+-- a pick from some first inputs gives a well-formed answer
 pub complete-good : (p : Profile) (s : State) (m : ℕ) (c : Cause) (l : ℕ) (first : List File) → WF p s → suc l < p .levels → badMaximum m ≡ false
     → Sub first (level s l) → isEmpty first ≡ false → goodPicked p (complete p s m c l first .picked) ≡ true
 unfolding complete level
@@ -219,7 +221,7 @@ complete-good p s m c l first w h bm sub ne =
       room = omega (arith, sub-length sub₁, sub-length sub₂, g .few, three-levels (s .files) l, w .room);
     }
 
--- a picked answer is well-formed
+-- the same for a size pick
 pub size-good : (p : Profile) (s : State) (m : ℕ) (k : Pick) → 2 ≤ p .levels → sizePick p s m ≡ gives k → goodPicked p (k .picked) ≡ true
 unfolding level
 size-good p s m k two h =
@@ -231,7 +233,7 @@ size-good p s m k two h =
     (complete-good p s m (bySize (reported (score s l))) l (sizeInputs l (pointer s l) (level s l)) w (omega (arith, level-is p s two .among)) (a .maximum)
     (size-sub l (pointer s l) (level s l)) (size-nonempty p l (pointer s l) (level s l) (λ f i. w .good f (join-in (s .files) l f i)) some-file))
 
--- of a manual pick
+-- the same for a manual pick
 pub range-good : (p : Profile) (s : State) (m l : ℕ) (a b : Key) (k : Pick) → manualPick p s m l a b ≡ gives k → goodPicked p (k .picked) ≡ true
 range-good p s m l a b k h =
     let r = range-accepted p s m l a b k h in
@@ -243,13 +245,13 @@ range-good p s m l a b k h =
     under : l < p .levels → (suc l ≡ p .levels → ⊥) → suc l < p .levels
     under i n = omega arith
 
--- a count of the bytes from some place up to this one
+-- the count is the bytes from some place up to this one
 record Run (gs : List File) (place count : ℕ) : Type 0 where
   from : ℕ
   early : from ≤ place
   is : total (drop from (take place gs)) ≡ count
 
--- the test says just that
+-- the test holds exactly if there is such a place
 run-says : (gs : List File) (place count : ℕ) → counts-up-to gs place count ≡ true ↔ Run gs place count
 unfolding counts-up-to
 run-says gs place count = (
@@ -270,7 +272,7 @@ unfolding total sum
 total-append [] ys = omega arith
 total-append (x ∷ xs) ys = omega (arith, total-append xs ys)
 
--- a run goes on over the files passed
+-- passing n files adds their bytes
 run-on : (gs : List File) (place n count : ℕ) → place ≤ length gs → Run gs place count → Run gs (place + n) (count + total (take n (drop place gs)))
 run-on gs place n count h r = record {
   from = r .from;
@@ -282,7 +284,7 @@ run-on gs place n count h r = record {
       ap (λ (xs : List File). total (drop (r .from) xs)) e ∙ ap total f ∙ total-append (drop (r .from) (take place gs)) (take n (drop place gs)) ∙ ap (λ (c : ℕ). c + total (take n (drop place gs))) (r .is);
 }
 
--- a run of nothing
+-- from its own place on, the count is 0
 run-none : (gs : List File) (place : ℕ) → place ≤ length gs → Run gs place 0
 unfolding total sum
 run-none gs place h = record {
@@ -291,7 +293,7 @@ run-none gs place h = record {
   is = let e : drop place (take place gs) ≡ [] = drop-of-length-le (take place gs) {i = place} (omega (arith, length-take-le place gs h)) in ap total e;
 }
 
--- no more are passed than there are
+-- no more files are passed than there are
 passed-few : (k : Key) (gs : List File) → passed k gs ≤ length gs
 unfolding passed
 passed-few k [] = omega arith
@@ -301,14 +303,14 @@ passed-few k (g ∷ gs) = go (passed-few k gs) (before (g .largest) k)
     go h true = omega arith
     go h false = omega arith
 
--- what a good memory says
+-- what a well-formed memory says
 record Memory (c : Picked) (m : Cutter) : Type 0 where
   place : m .place ≤ length (c .grand)
   count : m .count ≤ 10 * c .maximum
   run : Run (c .grand) (m .place) (m .count)
   unseen : m .seen ≡ false → m .count ≡ 0
 
--- a good memory says just that
+-- a memory that passes the test is so
 memory-says : (c : Picked) (m : Cutter) → goodCutter c m ≡ true → Memory c m
 unfolding goodCutter
 memory-says c m h = go (m .seen) refl
@@ -337,7 +339,7 @@ memory-says c m h = go (m .seen) refl
         let q : m .count ≡ 0 = eqb-true (m .count) 0 (and-right (eqb (m .place) 0) (eqb (m .count) 0) k) in
         record { place = omega arith; count = omega arith; run = rw (p, q) (run-none (c .grand) 0 (omega arith)); unseen = λ f. q }
 
--- the count after a step, as a count of bytes up to the new place
+-- the count after a step is again the bytes from some place up to the new one
 step-run : (c : Picked) (m : Cutter) (n : ℕ) (t b : Bool) → m .seen ≡ t → Memory c m → m .place + n ≤ length (c .grand)
     → Run (c .grand) (m .place + n) (cond b 0 (m .count + cond t (total (take n (drop (m .place) (c .grand)))) 0))
 step-run c m n t true e o i = run-none (c .grand) (m .place + n) i

@@ -11,20 +11,22 @@ use Rattle.model.specs.Key.{Key, user, userBefore, before}
 use Rattle.model.specs.File.{Profile, File, State, level, total, numbers, allFiles}
 use Rattle.model.specs.Range.{Range, overlaps}
 
--- ---- find_file: the first file whose largest is not before the key
+-- ---- find_file
+-- the first file whose largest is not before the key
 unfoldable pub findFile : Key → List File → Option File
 findFile k fs = find (λ f. not (before (f .largest) k)) fs
 
--- how many files at the front end before the key
+-- the number of files at the front that end before the key
 unfoldable pub passed : Key → List File → ℕ
 passed k [] = 0
 passed k (g ∷ gs) = cond (before (g .largest) k) (suc (passed k gs)) 0
 
--- its index: how many stand before it
+-- the index of the file found
 unfoldable pub findIndex : Key → List File → Option ℕ
 findIndex k fs = Option·map (λ (f : File). passed k fs) (findFile k fs)
 
--- ---- the cutter's memory: whether a key was seen, its place among the grandparents, the bytes counted
+-- ---- the cutter
+-- its memory: whether a key was seen, its place among the grandparents, the bytes counted
 pub record Cutter : Type 0 where
   pub seen : Bool
   pub place : ℕ
@@ -39,8 +41,8 @@ pub record Cut : Type 0 where
   pub answer : Bool
   pub memory : Cutter
 
--- the key passes the grandparents whose largest is before it; bytes passed count unless it is the first key;
--- if the count is above 10 m, it becomes 0 and the answer is yes
+-- one step. The key passes the grandparents whose largest is before it, and their bytes count unless it is the first key. If the count is above 10 m it becomes 0
+-- and the answer is yes
 unfoldable pub cutStep : ℕ → List File → Cutter → Key → Cut
 cutStep m gs c k =
     let ahead = drop (c .place) gs in
@@ -64,29 +66,30 @@ notBefore none u = true
 notBefore (some v) u = not (userBefore u v)
 
 -- ---- lookups: numbers of files
--- above level 0: find_file's, if its smallest user key is not above the key's
+-- above level 0: the file that find_file finds, if its smallest user key is not above the key's
 unfoldable pub candidate : Key → List File → List ℕ
 candidate k fs = numbers (keep (λ f. not (userBefore (user k) (user (f .smallest)))) (Option·toList (findFile k fs)))
 
--- level 0 gives every file holding the user key, greatest number first
+-- the numbers of the files that may hold the key. Level 0 gives every file holding the user key, greatest number first
 unfoldable pub lookup : ℕ → List File → Key → List ℕ
 lookup zero fs k = sort (λ m n. ltb n m) (numbers (keep (holds (user k)) fs))
 lookup (suc l) fs k = candidate k fs
 
 -- ---- the memory table
--- from level l, n steps at most: down while the next level has no overlap and the level after has at most 20971520 overlapping bytes
+-- down from level l, n steps at most: while the next level has no overlap and the level after has at most 20971520 overlapping bytes
 unfoldable pub descend : State → Range → ℕ → ℕ → ℕ
 descend s r l zero = l
 descend s r l (suc n) = cond (any (overlaps r) (level s (suc l)) || ltb 20971520 (total (keep (overlaps r) (level s (l + 2))))) l (descend s r (suc l) n)
 
--- level 2 at most, and never the deepest level
+-- the deepest level for a memory table: 2, and never the last level
 unfoldable pub deepest : Profile → ℕ
 deepest p = cond (leb 4 (p .levels)) 2 (p .levels - 2)
 
--- level 0 if a level 0 file overlaps it, otherwise as far down as it goes
+-- level 0 if a level 0 file overlaps, otherwise as far down as allowed
 unfoldable pub memtableLevel : Profile → State → Range → ℕ
 memtableLevel p s r = cond (any (overlaps r) (level s 0)) 0 (descend s r 0 (deepest p))
 
--- ---- live files: all numbers, rising
+-- ---- live files
+-- the numbers of all files, rising
 unfoldable pub liveFiles : State → List ℕ
 liveFiles s = sort ltb (numbers (allFiles s))

@@ -1,4 +1,4 @@
--- Laws of questions: `findIndex` is the index of what `findFile` finds, and above level 0 the files passed are a front of the list. Assumes nothing.
+-- Laws of questions: `findIndex` is the index of the file that `findFile` finds, and above level 0 the files passed are a front of the list. Assumes nothing.
 use Prim.Native.Nat.{ℕ, zero, suc, _<_, _≤_}
 use mathlib.Core.Path.{_≡_, refl, sym, subst}
 use mathlib.Core.Bool.{Bool, cond, true, false, not}
@@ -11,7 +11,8 @@ use native.Mathlib.Omega.{arith}
 use Rattle.lemmas.specs.Order.{clash, le-lt, lt-le}
 use Rattle.lemmas.specs.Lists.{find}
 use Rattle.lemmas.specs.ListLaws.{getD-in, chain-rest, chain-first}
-use Rattle.model.specs.Key.{Key, before, before-order}
+use Rattle.model.specs.Key.{Key, before}
+use Rattle.model.specs.KeyLaws.{before-order}
 use Rattle.model.specs.File.{File, apart}
 use Rattle.model.specs.Question.{findFile, passed, findIndex}
 
@@ -22,7 +23,7 @@ pub record FoundAt (k : Key) (fs : List File) (i : ℕ) (f : File) : Type 0 wher
   pub passes : before (f .largest) k ≡ false
   pub earlier : (g : File) → In g (take i fs) → before (g .largest) k ≡ true
 
--- what is found stands where `passed` says
+-- `passed` is the index of the file found
 pub found-at : (k : Key) (fs : List File) (f : File) → findFile k fs ≡ some f → FoundAt k fs (passed k fs) f
 unfolding findFile passed find
 found-at k [] f e = let z : true ≡ false = cc in clash refl z
@@ -40,17 +41,17 @@ found-at k (g ∷ gs) f e = go (found-at k gs f) (before (g .largest) k) refl e
     go ih true q r = step (ih r) q
     go ih false q r = let s : g ≡ f = cc in record { below = omega arith; at = λ d. s; passes = subst (λ (y : File). before (y .largest) k ≡ false) s q; earlier = λ x m. absurd (not-nil m) }
 
--- the two agree: an index is given exactly where a file is, and that file stands there
+-- if a file is found, its index is given
 pub find-agree : (k : Key) (fs : List File) (f : File) → findFile k fs ≡ some f → (findIndex k fs ≡ some (passed k fs)) × FoundAt k fs (passed k fs) f
 unfolding findIndex
 find-agree k fs f e = (rw e, found-at k fs f e)
 
--- no file, no index
+-- if no file is found, no index is given
 pub find-neither : (k : Key) (fs : List File) → findFile k fs ≡ none → findIndex k fs ≡ none
 unfolding findIndex
 find-neither k fs e = rw e
 
--- where no file is found, all are passed
+-- if no file is found, all are passed
 none-left : (k : Key) (fs : List File) → findFile k fs ≡ none → length fs ≤ passed k fs
 unfolding findFile passed find
 none-left k [] e = omega arith
@@ -60,7 +61,7 @@ none-left k (f ∷ fs) e = go (before (f .largest) k) e (none-left k fs)
     go true q ih = omega (arith, ih q)
     go false q ih = let z : true ≡ false = cc in clash refl z
 
--- an index is given exactly where not all files end before the key
+-- an index is given exactly if not all files end before the key
 pub find-index-is : (k : Key) (fs : List File) → findIndex k fs ≡ cond (ltb (passed k fs) (length fs)) (some (passed k fs)) none
 unfolding findIndex
 find-index-is k fs = go (findFile k fs) refl
@@ -80,7 +81,8 @@ passed-before k (f ∷ fs) i d h = go (before (f .largest) k) refl i h (λ j q. 
     go true e zero q ih = e
     go true e (suc i) q ih = ih i (omega arith)
 
--- ---- above level 0 the largest keys rise, so that a search by halves finds what find_file's rule finds
+-- ---- above level 0 the largest keys rise, so a search by halves finds the same file
+-- later files have later largest keys
 pub ends-rise : (fs : List File) → ((f : File) → In f fs → before (f .largest) (f .smallest) ≡ false) → apart fs ≡ true → (i j : ℕ) (d : File) → i < j → j < length fs
     → before (getD fs i d .largest) (getD fs j d .largest) ≡ true
 ends-rise [] g c i j d h b = absurd (omega arith)
@@ -94,7 +96,7 @@ ends-rise (x ∷ xs) g c zero (suc j) d h b =
     lt-le before before-order (x .largest) (y .smallest) (y .largest) step (g y (there m))
 ends-rise (x ∷ xs) g c (suc i) (suc j) d h b = ends-rise xs (λ f m. g f (there m)) (chain-rest (λ (f g : File). before (f .largest) (g .smallest)) x xs c) i j d (omega arith) (omega arith)
 
--- and every file from there on does not end before the key
+-- no file from there on ends before the key
 pub not-passed : (k : Key) (fs : List File) → ((f : File) → In f fs → before (f .largest) (f .smallest) ≡ false) → apart fs ≡ true → (i : ℕ) (d : File) → passed k fs ≤ i → i < length fs
     → before (getD fs i d .largest) k ≡ false
 not-passed k fs g c i d h b = go (findFile k fs) refl

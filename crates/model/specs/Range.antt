@@ -9,7 +9,7 @@ use Rattle.lemmas.specs.Lists.{keep, all, find}
 use Rattle.model.specs.Key.{Key, user, userBefore, before}
 use Rattle.model.specs.File.{File}
 
--- a range, read by user keys; start after stop is allowed
+-- a range of user keys. Start after stop is allowed
 pub record Range : Type 0 where
   pub start : List ℕ
   pub stop : List ℕ
@@ -36,7 +36,7 @@ pub record Within (r wide : Range) : Type 0 where
 abbrev pub Closed : List File → Range → Type 0
 Closed fs r = (f : File) → In f fs → overlaps r f ≡ true → inside r f ≡ true
 
--- `w` is the least widening of `r`; RangeLaws proves that `widen` is one and that there is no other
+-- `w` is the least widening of `r`. RangeLaws proves that `widen` is one and that there is no other
 pub record LeastWidening (fs : List File) (r w : Range) : Type 0 where
   pub contains : Within r w
   pub closed : Closed fs w
@@ -50,7 +50,7 @@ earlier a b = cond (userBefore b a) b a
 unfoldable pub later : List ℕ → List ℕ → List ℕ
 later a b = cond (userBefore a b) b a
 
--- the range and the file
+-- the least range that contains the range and the file
 unfoldable pub stretch : Range → File → Range
 stretch r f = record { start = earlier (r .start) (user (f .smallest)); stop = later (r .stop) (user (f .largest)) }
 
@@ -58,21 +58,21 @@ stretch r f = record { start = earlier (r .start) (user (f .smallest)); stop = l
 unfoldable pub sticksOut : Range → File → Bool
 sticksOut r f = overlaps r f && not (inside r f)
 
--- stretch over a file that overlaps and sticks out, at most n times
+-- stretches over a file that overlaps and sticks out, at most n times
 unfoldable pub widenBy : ℕ → List File → Range → Range
 widenBy zero fs r = r
 widenBy (suc n) fs r = elim (find (sticksOut r) fs) [ none ↦ r | some f ↦ widenBy n fs (stretch r f) ]
 
--- as many times as there are files: the least widening
+-- the least widening: one turn for each file is enough
 unfoldable pub widen : List File → Range → Range
 widen fs r = widenBy (length fs) fs r
 
--- level 0 takes the least widening and answers the files overlapping that; other levels answer the overlapping files; in level order
+-- the files overlapping the range, in level order. Level 0 takes the least widening first
 unfoldable pub overlapping : ℕ → List File → Range → List File
 overlapping zero fs r = keep (overlaps (widen fs r)) fs
 overlapping (suc l) fs r = keep (overlaps r) fs
 
--- ---- the range of a list of files: of keys equal in order, smallest and largest are those of the first such file in list order
+-- ---- the range of a list of files: among keys equal in order, that of the first file counts
 -- no file's smallest is before this one's
 unfoldable pub isLowest : List File → File → Bool
 isLowest fs f = all (λ g. not (before (g .smallest) (f .smallest))) fs

@@ -11,16 +11,18 @@ use native.Mathlib.Omega.{arith}
 use Rattle.lemmas.specs.Order.{StrictWeak, clash, asym, less, flip-order, on-order}
 use Rattle.lemmas.specs.Lists.{find}
 use Rattle.lemmas.specs.ListLaws.{and-left, and-right, both, find-some, find-none, tally, tally-le, tally-less, tally-none, all-in, leastOf, isLeast, find-least, neither, neither-left, neither-right}
-use Rattle.model.specs.Key.{Key, user, userBefore, before, userBefore-order, before-order, user-same}
+use Rattle.model.specs.Key.{Key, user, userBefore, before}
+use Rattle.model.specs.KeyLaws.{userBefore-order, before-order, user-same}
 use Rattle.model.specs.File.{File, bySmallest}
 use Rattle.model.specs.Range.{Range, overlaps, inside, Within, Closed, LeastWidening, earlier, later, stretch, sticksOut, widenBy, widen, isLowest, isHighest, lowKey, highKey}
 use Rattle.model.specs.EditLaws.{bySmallest-order}
 
--- ---- the order on user keys, `a ≤ b` as `userBefore b a ≡ false`
+-- ---- the order of user keys, with `a ≤ b` as `userBefore b a ≡ false`
+-- a key is not before itself
 le-refl : (a : List ℕ) → userBefore a a ≡ false
 le-refl a = userBefore-order .irrefl a
 
--- not after what is not after
+-- "not after" is transitive
 le-trans : (a b c : List ℕ) → userBefore b a ≡ false → userBefore c b ≡ false → userBefore c a ≡ false
 le-trans a b c h k = userBefore-order .ntrans c b a k h
 
@@ -33,7 +35,7 @@ earlier-l a b = go (userBefore b a) refl
     go true e = asym userBefore userBefore-order b a e
     go false e = le-refl a
 
--- nor after the other
+-- nor after the other one
 earlier-r : (a b : List ℕ) → userBefore b (earlier a b) ≡ false
 unfolding earlier
 earlier-r a b = go (userBefore b a) refl
@@ -42,7 +44,7 @@ earlier-r a b = go (userBefore b a) refl
     go true e = le-refl b
     go false e = e
 
--- and what is not after both is not after it
+-- a key not after both is not after the earlier
 earlier-least : (a b c : List ℕ) → userBefore a c ≡ false → userBefore b c ≡ false → userBefore (earlier a b) c ≡ false
 unfolding earlier
 earlier-least a b c h k = go (userBefore b a)
@@ -51,7 +53,7 @@ earlier-least a b c h k = go (userBefore b a)
     go true = k
     go false = h
 
--- the later of two alike
+-- the later of two is not before either
 later-l : (a b : List ℕ) → userBefore (later a b) a ≡ false
 unfolding later
 later-l a b = go (userBefore a b) refl
@@ -60,7 +62,7 @@ later-l a b = go (userBefore a b) refl
     go true e = asym userBefore userBefore-order a b e
     go false e = le-refl a
 
--- nor before the other
+-- nor before the other one
 later-r : (a b : List ℕ) → userBefore (later a b) b ≡ false
 unfolding later
 later-r a b = go (userBefore a b) refl
@@ -69,7 +71,7 @@ later-r a b = go (userBefore a b) refl
     go true e = le-refl b
     go false e = e
 
--- and what is not before both is not before it
+-- a key not before both is not before the later
 later-least : (a b c : List ℕ) → userBefore c a ≡ false → userBefore c b ≡ false → userBefore c (later a b) ≡ false
 unfolding later
 later-least a b c h k = go (userBefore a b)
@@ -79,36 +81,37 @@ later-least a b c h k = go (userBefore a b)
     go false = h
 
 -- ---- ranges
+-- a range is within itself
 pub within-refl : (r : Range) → Within r r
 within-refl r = record { start = le-refl (r .start); stop = le-refl (r .stop) }
 
--- within what is within
+-- "within" is transitive
 pub within-trans : (a b c : Range) → Within a b → Within b c → Within a c
 within-trans a b c h k = record { start = le-trans (c .start) (b .start) (a .start) (k .start) (h .start); stop = le-trans (a .stop) (b .stop) (c .stop) (h .stop) (k .stop) }
 
--- what the two tests say
+-- a file overlaps a range, part by part
 pub record Overlaps (r : Range) (f : File) : Type 0 where
   pub left : userBefore (user (f .largest)) (r .start) ≡ false
   pub right : userBefore (r .stop) (user (f .smallest)) ≡ false
 
--- lying inside, part by part
+-- a file lies inside a range, part by part
 pub record Inside (r : Range) (f : File) : Type 0 where
   pub left : userBefore (user (f .smallest)) (r .start) ≡ false
   pub right : userBefore (r .stop) (user (f .largest)) ≡ false
 
--- overlapping says just that
+-- the test of overlapping holds exactly if each part does
 pub overlaps-says : (r : Range) (f : File) → overlaps r f ≡ true ↔ Overlaps r f
 unfolding overlaps
 overlaps-says r f = let a = userBefore (user (f .largest)) (r .start) in let b = userBefore (r .stop) (user (f .smallest)) in
     (λ h. record { left = neither-left a b h; right = neither-right a b h }, λ o. neither a b (o .left) (o .right))
 
--- lying inside says just that
+-- the test of lying inside holds exactly if each part does
 pub inside-says : (r : Range) (f : File) → inside r f ≡ true ↔ Inside r f
 unfolding inside
 inside-says r f = let a = userBefore (user (f .smallest)) (r .start) in let b = userBefore (r .stop) (user (f .largest)) in
     (λ h. record { left = neither-left a b h; right = neither-right a b h }, λ o. neither a b (o .left) (o .right))
 
--- what overlaps a range overlaps a wider one
+-- a file that overlaps a range overlaps a wider one
 pub overlaps-mono : (r v : Range) (f : File) → Within r v → overlaps r f ≡ true → overlaps v f ≡ true
 overlaps-mono r v f w h =
     let o = overlaps-says r f .0 h in
@@ -117,7 +120,7 @@ overlaps-mono r v f w h =
       right = le-trans (user (f .smallest)) (r .stop) (v .stop) (o .right) (w .stop);
     }
 
--- what lies inside a range lies inside a wider one
+-- a file that lies inside a range lies inside a wider one
 pub inside-mono : (r v : Range) (f : File) → Within r v → inside r f ≡ true → inside v f ≡ true
 inside-mono r v f w h =
     let o = inside-says r f .0 h in
@@ -126,17 +129,17 @@ inside-mono r v f w h =
       right = le-trans (user (f .largest)) (r .stop) (v .stop) (o .right) (w .stop);
     }
 
--- stretching widens
+-- a stretched range contains the range
 pub stretch-within : (r : Range) (f : File) → Within r (stretch r f)
 unfolding stretch
 stretch-within r f = record { start = earlier-l (r .start) (user (f .smallest)); stop = later-l (r .stop) (user (f .largest)) }
 
--- over the file
+-- it has the file inside
 pub stretch-inside : (r : Range) (f : File) → inside (stretch r f) f ≡ true
 unfolding stretch
 stretch-inside r f = inside-says (stretch r f) f .1 record { left = earlier-r (r .start) (user (f .smallest)); right = later-r (r .stop) (user (f .largest)) }
 
--- and no more than needed
+-- it is the least such range
 pub stretch-least : (r v : Range) (f : File) → Within r v → inside v f ≡ true → Within (stretch r f) v
 unfolding stretch
 stretch-least r v f w h = let o = inside-says v f .0 h in record {
@@ -144,17 +147,17 @@ stretch-least r v f w h = let o = inside-says v f .0 h in record {
   stop = later-least (r .stop) (user (f .largest)) (v .stop) (w .stop) (o .right);
 }
 
--- what sticks out overlaps
+-- a file that sticks out overlaps
 pub sticks-overlaps : (r : Range) (f : File) → sticksOut r f ≡ true → overlaps r f ≡ true
 unfolding sticksOut
 sticks-overlaps r f h = and-left (overlaps r f) (not (inside r f)) h
 
--- and does not lie inside
+-- it does not lie inside
 pub sticks-outside : (r : Range) (f : File) → sticksOut r f ≡ true → inside r f ≡ false
 unfolding sticksOut
 sticks-outside r f h = not-true (inside r f) (and-right (overlaps r f) (not (inside r f)) h)
 
--- what overlaps and does not stick out lies inside
+-- a file that overlaps and does not stick out lies inside
 pub no-stick : (r : Range) (f : File) → sticksOut r f ≡ false → overlaps r f ≡ true → inside r f ≡ true
 unfolding sticksOut
 no-stick r f h o = go (inside r f) refl
@@ -163,7 +166,8 @@ no-stick r f h o = go (inside r f) refl
     go true e = e
     go false e = clash (both (overlaps r f) (not (inside r f)) o (rw e)) h
 
--- ---- the loop: by cases on what `find` finds
+-- ---- the loop of `widen`, by the file that `find` finds
+-- the rest of the loop, with that file stretched over
 one-more : ℕ → List File → Range → Option File → Range
 one-more n fs r none = r
 one-more n fs r (some f) = widenBy n fs (stretch r f)
@@ -177,7 +181,7 @@ widenBy-suc n fs r = go (find (sticksOut r) fs) refl
     go none e = rw (e, widenBy)
     go (some f) e = rw (e, widenBy)
 
--- the loop widens
+-- the loop's range contains the first range
 widenBy-contains : (n : ℕ) (fs : List File) (r : Range) → Within r (widenBy n fs r)
 unfolding widenBy one-more
 widenBy-contains zero fs r = within-refl r
@@ -187,7 +191,7 @@ widenBy-contains (suc n) fs r = rw widenBy-suc (go (λ f. widenBy-contains n fs 
     go ih none = within-refl r
     go ih (some f) = within-trans r (stretch r f) (widenBy n fs (stretch r f)) (stretch-within r f) (ih f)
 
--- no more than needed
+-- it is within every closed range that contains the first
 widenBy-least : (n : ℕ) (fs : List File) (r v : Range) → Within r v → Closed fs v → Within (widenBy n fs r) v
 unfolding widenBy one-more
 widenBy-least zero fs r v w c = w
@@ -202,7 +206,7 @@ widenBy-least (suc n) fs r v w c = rw widenBy-suc (go (λ f. widenBy-least n fs 
 outside : Range → File → Bool
 outside r f = not (inside r f)
 
--- and, with a turn for each file outside, far enough
+-- with a turn for each file outside it is closed
 widenBy-closed : (n : ℕ) (fs : List File) (r : Range) → tally (outside r) fs ≤ n → Closed fs (widenBy n fs r)
 unfolding widenBy one-more outside
 widenBy-closed zero fs r h = λ f m o. not-false (inside r f) (tally-none (outside r) fs f h m)
@@ -229,19 +233,20 @@ widen-least fs r = record {
   least = λ v w c. widenBy-least (length fs) fs r v w c;
 }
 
--- the words of document 01 leave one range: two least widenings contain each other
+-- there is only one least widening
 pub one-widening : (fs : List File) (r v w : Range) → LeastWidening fs r v → LeastWidening fs r w → v ≡ w
 one-widening fs r v w h k =
     let a = h .least w (k .contains) (k .closed) in
     let b = k .least v (h .contains) (h .closed) in
     λ i. record { start = user-same (v .start) (w .start) (a .start) (b .start) i; stop = user-same (v .stop) (w .stop) (b .stop) (a .stop) i }
 
--- ---- the range of a list of files, found by going through the list once
+-- ---- the range of a list of files, in one pass
+-- the smallest key, k so far
 unfoldable pub smallestOf : Key → List File → Key
 smallestOf k [] = k
 smallestOf k (f ∷ fs) = smallestOf (cond (before (f .smallest) k) (f .smallest) k) fs
 
--- the high key alike
+-- the largest key, k so far
 unfoldable pub largestOf : Key → List File → Key
 largestOf k [] = k
 largestOf k (f ∷ fs) = largestOf (cond (before k (f .largest)) (f .largest) k) fs
@@ -250,7 +255,7 @@ largestOf k (f ∷ fs) = largestOf (cond (before k (f .largest)) (f .largest) k)
 abbrev byLargest : File → File → Bool
 byLargest f g = before (g .largest) (f .largest)
 
--- an order
+-- it is a strict weak order
 byLargest-order : StrictWeak byLargest
 byLargest-order = on-order (λ a b. before b a) (λ (f : File). f .largest) (flip-order before before-order)
 
@@ -286,31 +291,31 @@ high-of f (g ∷ gs) = go (before (f .largest) (g .largest)) (high-of f gs) (hig
     go true a b = b
     go false a b = a
 
--- the low key is the one found by going through the list once
+-- the low key is the one found in one pass
 pub low-fold : (f : File) (fs : List File) → lowKey (f ∷ fs) ≡ smallestOf (f .smallest) fs
 unfolding lowKey
 low-fold f fs = rw low-file (low-of f fs)
 
--- so is the high key
+-- the high key is the one found in one pass
 pub high-fold : (f : File) (fs : List File) → highKey (f ∷ fs) ≡ largestOf (f .largest) fs
 unfolding highKey
 high-fold f fs = rw high-file (high-of f fs)
 
--- the low key is some file's smallest, and no file's smallest is before it; the high key alike
+-- the low key is some file's smallest, and no file's smallest is before it
 pub record Lowest (fs : List File) : Type 0 where
   pub file : File
   pub among : In file fs
   pub is : lowKey fs ≡ file .smallest
   pub least : (f : File) → In f fs → before (f .smallest) (lowKey fs) ≡ false
 
--- of the high key
+-- the high key is some file's largest, and no file's largest is after it
 pub record Highest (fs : List File) : Type 0 where
   pub file : File
   pub among : In file fs
   pub is : highKey fs ≡ file .largest
   pub greatest : (f : File) → In f fs → before (highKey fs) (f .largest) ≡ false
 
--- what the low key is
+-- the low key of a list with a file is so
 pub lowest : (f : File) (fs : List File) → Lowest (f ∷ fs)
 unfolding lowKey isLowest
 lowest f fs =
@@ -320,7 +325,7 @@ lowest f fs =
     let i : lowKey (f ∷ fs) ≡ g .smallest = rw e in
     record { file = g; among = h .1; is = i; least = λ x m. rw i (not-true (before (x .smallest) (g .smallest)) (all-in (λ y. not (before (y .smallest) (g .smallest))) (f ∷ fs) .0 (h .0) x m)) }
 
--- what the high key is
+-- the high key of a list with a file is so
 pub highest : (f : File) (fs : List File) → Highest (f ∷ fs)
 unfolding highKey isHighest
 highest f fs =

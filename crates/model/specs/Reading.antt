@@ -1,4 +1,4 @@
--- Reading a snapshot: what is read writes the same bytes, and every well-formed state can be read back. Assumes nothing.
+-- Reading a snapshot: a state that is read writes the same bytes, and every well-formed state can be read back. Assumes nothing.
 use Prim.Native.Nat.{ℕ, zero, suc, _+_, _^_, _<_, _≤_}
 use mathlib.Core.Path.{_≡_, refl, ap, _∙_, subst}
 use mathlib.Core.Logic.{_⊎_, inl, inr}
@@ -15,14 +15,15 @@ use Rattle.lemmas.specs.Lists.{sort, join, distinct, upFrom}
 use Rattle.lemmas.specs.ListLaws.{and-left, and-right, both, tally, sort-in, sort-tally, sort-chain, tally-append, tally-map, distinct-tally, distinct-of-tally, sort-length, distinct-append, map-same}
 use Rattle.lemmas.specs.Little.{number, bytes, bytes-length, bytes-number}
 use Rattle.model.specs.Key.{Key, before}
-use Rattle.model.specs.File.{Profile, File, State, level, numbers, bySmallest, apart, inOrder, levelwise, wellFormed}
-use Rattle.model.specs.Snapshot.{byNumber, writeKey, writeFile, Entry, entries, writeEntry, section, writeLevel, fiveOf, encode, Read, Reader, onward, _>>=_, give, times, readBytes, readNumber, readKey, readFile, readSection, readLevel, readPointer, placed, fromFive, readState, sameBytes, accept, decode}
+use Rattle.model.specs.File.{Profile, File, State, level, numbers, bySmallest, apart, inOrder, levelwise, wellFormed, levelCount}
+use Rattle.model.specs.Snapshot.{byNumber, writeKey, writeFile, Entry, entries, writeEntry, section, writeLevel, fiveOf, encode, Read, Reader, onward, _>>=_, give, times, readBytes, readNumber, readKey, readFile, readSection, readLevel, readPointer, placed, fromFive, readState, sameBytes, accept, decode, byteLong, countLong, numberLong}
 use Rattle.model.specs.EditLaws.{bySmallest-order}
 use Rattle.model.specs.Formed.{WF, formed-says, goodFile-order, numbers-append, distinct-level, apart-sorted, apart-ties}
 use Rattle.model.specs.SnapshotLaws.{Writable, WritableEntry, WritableLevel, Storable, Fits, storable, same-bytes}
 use Rattle.model.specs.ByNumber.{sorted-one, sort-distinct, same-by-number}
 
--- ---- what is read writes the same bytes
+-- ---- a state that is read writes the same bytes
+-- lists that pass the test are equal
 pub same-eq : (a b : List ℕ) → sameBytes a b ≡ true → a ≡ b
 unfolding sameBytes
 same-eq [] [] e = refl
@@ -33,13 +34,13 @@ same-eq (x ∷ xs) (y ∷ ys) e =
     let q : xs ≡ ys = same-eq xs ys (and-right (eqb x y) (sameBytes xs ys) e) in
     cc
 
--- a list has the same bytes as itself
+-- a list passes the test with itself
 pub eq-same : (a : List ℕ) → sameBytes a a ≡ true
 unfolding sameBytes
 eq-same [] = refl
 eq-same (x ∷ xs) = both (eqb x x) (sameBytes xs xs) (eq-eqb x x refl) (eq-same xs)
 
--- what is read is well-formed and writes these very bytes
+-- a state that is read is well-formed and writes these very bytes
 pub decode-sound : (p : Profile) (bs : List ℕ) (s : State) → decode p bs ≡ some s → (wellFormed p s ≡ true) × (encode s ≡ bs)
 unfolding decode accept
 decode-sound p bs s h = go (readState p bs) h
@@ -59,11 +60,12 @@ decode-sound p bs s h = go (readState p bs) h
     go (some r) k = pass (r .value) (test (r .value)) refl k
 
 -- ---- readers of what was written
+-- the reader reads the value from these bytes, whatever follows
 pub Reads : {A : Type 0} → Reader A → List ℕ → A → Type 0
 Reads {A} r w a = (x : List ℕ) → r (w ++ x) ≡ some (record { value = a; rest = x })
 
 module _ {A B : Type 0} where
-  -- one after another
+  -- one reader after another
   then : (r : Reader A) (f : A → Reader B) (v w : List ℕ) (a : A) (b : B) → Reads r v a → Reads (f a) w b → Reads (r >>= f) (v ++ w) b
   unfolding _>>=_ onward Reads
   then r f v w a b h k x = rw (append-assoc, h (w ++ x)) (k x)
@@ -73,11 +75,11 @@ gives-it : {A : Type 0} (a : A) → Reads (give a) [] a
 unfolding give Reads
 gives-it a x = refl
 
--- the same, where the bytes are written another way
+-- the same bytes in another form
 reads-as : {A : Type 0} (r : Reader A) (v w : List ℕ) (a : A) → v ≡ w → Reads r v a → Reads r w a
 reads-as r v w a e h = subst (λ (u : List ℕ). Reads r u a) e h
 
--- so many bytes
+-- n bytes
 reads-bytes : (n : ℕ) (v : List ℕ) → length v ≡ n → Reads (readBytes n) v v
 unfolding readBytes Reads
 reads-bytes n v e x =
@@ -94,7 +96,7 @@ reads-number w n h =
 -- a key
 reads-key : (k : Key) → length k < 256 → Reads readKey (writeKey k) k
 unfolding readKey writeKey
-reads-key k h = then (readNumber 1) (λ n. readBytes n) (bytes 1 (length k)) k (length k) k (reads-number 1 (length k) h) (reads-bytes (length k) k refl)
+reads-key k h = then (readNumber byteLong) (λ n. readBytes n) (bytes byteLong (length k)) k (length k) k (reads-number 1 (length k) h) (reads-bytes (length k) k refl)
 
 -- a file
 reads-file : (f : File) → Writable f → Reads readFile (writeFile f) f
@@ -106,21 +108,21 @@ reads-file f w =
     let b = f .largest in
     let r₄ = then readKey (λ (b : Key). give (record { number = n; size = z; smallest = a; largest = b })) (writeKey b) [] b f (reads-key b (w .largest)) (gives-it f) in
     let r₃ = then readKey (λ (a : Key). readKey >>= λ b. give (record { number = n; size = z; smallest = a; largest = b })) (writeKey a) (writeKey b ++ []) a f (reads-key a (w .smallest)) r₄ in
-    let r₂ = then (readNumber 8) (λ (z : ℕ). readKey >>= λ a. readKey >>= λ b. give (record { number = n; size = z; smallest = a; largest = b }))
-    (bytes 8 z) (writeKey a ++ (writeKey b ++ [])) z f (reads-number 8 z (w .size)) r₃ in
-    reads-as readFile (bytes 8 n ++ (bytes 8 z ++ (writeKey a ++ (writeKey b ++ [])))) (writeFile f) f (simp (append-assoc, append-nil))
-    (then (readNumber 8) (λ (n : ℕ). readNumber 8 >>= λ z. readKey >>= λ a. readKey >>= λ b. give (record { number = n; size = z; smallest = a; largest = b }))
-    (bytes 8 n) (bytes 8 z ++ (writeKey a ++ (writeKey b ++ []))) n f (reads-number 8 n (w .number)) r₂)
+    let r₂ = then (readNumber numberLong) (λ (z : ℕ). readKey >>= λ a. readKey >>= λ b. give (record { number = n; size = z; smallest = a; largest = b }))
+    (bytes numberLong z) (writeKey a ++ (writeKey b ++ [])) z f (reads-number 8 z (w .size)) r₃ in
+    reads-as readFile (bytes numberLong n ++ (bytes numberLong z ++ (writeKey a ++ (writeKey b ++ [])))) (writeFile f) f (simp (append-assoc, append-nil))
+    (then (readNumber numberLong) (λ (n : ℕ). readNumber numberLong >>= λ z. readKey >>= λ a. readKey >>= λ b. give (record { number = n; size = z; smallest = a; largest = b }))
+    (bytes numberLong n) (bytes numberLong z ++ (writeKey a ++ (writeKey b ++ []))) n f (reads-number 8 n (w .number)) r₂)
 
 -- a pointer
 reads-entry : (e : Entry) → WritableEntry e → Reads readPointer (writeEntry e) e
 unfolding readPointer writeEntry
 reads-entry e w =
     let r₂ = then readKey (λ (k : Key). give (record { level = e .level; key = k })) (writeKey (e .key)) [] (e .key) e (reads-key (e .key) (w .key)) (gives-it e) in
-    reads-as readPointer (bytes 1 (e .level) ++ (writeKey (e .key) ++ [])) (writeEntry e) e (simp append-nil)
-    (then (readNumber 1) (λ (l : ℕ). readKey >>= λ k. give (record { level = l; key = k })) (bytes 1 (e .level)) (writeKey (e .key) ++ []) (e .level) e (reads-number 1 (e .level) (w .level)) r₂)
+    reads-as readPointer (bytes byteLong (e .level) ++ (writeKey (e .key) ++ [])) (writeEntry e) e (simp append-nil)
+    (then (readNumber byteLong) (λ (l : ℕ). readKey >>= λ k. give (record { level = l; key = k })) (bytes byteLong (e .level)) (writeKey (e .key) ++ []) (e .level) e (reads-number 1 (e .level) (w .level)) r₂)
 
--- n parts, each written from an index and read as its value
+-- n parts, each written from an item and read as its value
 reads-times : {A I : Type 0} (r : Reader A) (w : I → List ℕ) (v : I → A) (is : List I) → ((i : I) → In i is → Reads r (w i) (v i)) → Reads (times (length is) r) (join (map w is)) (map v is)
 unfolding times join
 reads-times r w v [] h = gives-it []
@@ -132,10 +134,10 @@ reads-times r w v (i ∷ is) h =
 -- a section
 reads-section : {A : Type 0} (r : Reader A) (w : A → List ℕ) (xs : List A) → ((a : A) → In a xs → Reads r (w a) a) → length xs < 65536 → Reads (readSection r) (section w xs) xs
 unfolding readSection section
-reads-section r w xs h few = then (readNumber 2) (λ n. times n r) (bytes 2 (length xs)) (join (map w xs)) (length xs) xs
+reads-section r w xs h few = then (readNumber countLong) (λ n. times n r) (bytes countLong (length xs)) (join (map w xs)) (length xs) xs
     (reads-number 2 (length xs) few) (subst (λ (ys : List _). Reads (times (length xs) r) (join (map w xs)) ys) (map-same xs) (reads-times r w (λ x. x) xs h))
 
--- a level as it is read: ties by number
+-- a level as it is read: ties by rising number
 unfoldable pub inReadOrder : List File → List File
 inReadOrder fs = sort bySmallest (sort byNumber fs)
 
@@ -148,7 +150,8 @@ reads-level fs w =
     (then (readSection readFile) (λ hs. give (sort bySmallest hs)) (section writeFile gs) [] gs (sort bySmallest gs)
     (reads-section readFile writeFile gs (λ f m. reads-file f (w .files f (sort-in byNumber fs f .0 m))) (w .few)) (gives-it (sort bySmallest gs)))
 
--- ---- pointers put in their places
+-- ---- pointers
+-- the entries put back in their places are the pointers
 pub placed-back : (ps : List (Option Key)) (l : ℕ) (pre : List (Option Key)) → length pre ≡ l → placed (entries l ps) (pre ++ replicate (length ps) none) ≡ pre ++ ps
 unfolding placed entries
 placed-back [] l pre e = refl
@@ -161,10 +164,11 @@ placed-back (some k ∷ ps) l pre e =
     ap (λ (x : List (Option Key)). placed (entries (suc l) ps) x) q ∙ (simp append-snoc at h)
 
 -- ---- the state as it is read
+-- its levels with ties by rising number
 unfoldable pub asRead : State → State
 asRead s = record { files = map inReadOrder (s .files); pointers = s .pointers; counters = s .counters }
 
--- seven levels are written; the first of them, as many as there are, are the state's
+-- the levels read are the state's, for as many as there are
 levels-back : (g : ℕ → List File) (k m : ℕ) (fss : List (List File)) → ((i : ℕ) → i < length fss → g (k + i) ≡ getD fss i []) → length fss ≤ m
     → take (length fss) (map (λ l. inReadOrder (g l)) (upFrom k m)) ≡ map inReadOrder fss
 unfolding upFrom
@@ -176,39 +180,39 @@ levels-back g k (suc m) (fs ∷ fss) h b =
     let rest = levels-back g (suc k) m fss (λ i q. let e′ : k + suc i ≡ suc k + i = omega arith in rw e′ at (h (suc i) (omega arith))) (omega arith) in
     ap (λ (x : List File). inReadOrder x ∷ take (length fss) (map (λ l. inReadOrder (g l)) (upFrom (suc k) m))) first ∙ ap (λ (r : List (List File)). inReadOrder fs ∷ r) rest
 
--- all levels
-seven-levels : (s : State) → Storable s → Reads (times 7 readLevel) (join (map (λ l. writeLevel (level s l)) (upFrom 0 7))) (map (λ l. inReadOrder (level s l)) (upFrom 0 7))
+-- all seven levels
+seven-levels : (s : State) → Storable s → Reads (times levelCount readLevel) (join (map (λ l. writeLevel (level s l)) (upFrom 0 levelCount))) (map (λ l. inReadOrder (level s l)) (upFrom 0 levelCount))
 unfolding upFrom
-seven-levels s w = reads-times readLevel (λ l. writeLevel (level s l)) (λ l. inReadOrder (level s l)) (upFrom 0 7) (λ l m. reads-level (level s l) (w .levels l))
+seven-levels s w = reads-times readLevel (λ l. writeLevel (level s l)) (λ l. inReadOrder (level s l)) (upFrom 0 levelCount) (λ l m. reads-level (level s l) (w .levels l))
 
 -- a state
-reads-state : (p : Profile) (s : State) → Storable s → length (s .files) ≡ p .levels → length (s .pointers) ≡ p .levels → p .levels ≤ 7 → Reads (readState p) (encode s) (asRead s)
+reads-state : (p : Profile) (s : State) → Storable s → length (s .files) ≡ p .levels → length (s .pointers) ≡ p .levels → p .levels ≤ levelCount → Reads (readState p) (encode s) (asRead s)
 unfolding readState encode asRead level fiveOf fromFive
 reads-state p s w nf np small =
     let ns = fiveOf (s .counters) in
     let es = entries 0 (s .pointers) in
-    let cb = section (bytes 8) ns in
+    let cb = section (bytes numberLong) ns in
     let pb = section writeEntry es in
-    let lb = join (map (λ l. writeLevel (level s l)) (upFrom 0 7)) in
-    let r₃ = then (times 7 readLevel) (λ (gs : List (List File)). give (record { files = take (p .levels) gs; pointers = placed es (replicate (p .levels) none); counters = fromFive ns })) lb [] fss (asRead s) levels
+    let lb = join (map (λ l. writeLevel (level s l)) (upFrom 0 levelCount)) in
+    let r₃ = then (times levelCount readLevel) (λ (gs : List (List File)). give (record { files = take (p .levels) gs; pointers = placed es (replicate (p .levels) none); counters = fromFive ns })) lb [] fss (asRead s) levels
     (subst (λ (t : State). Reads (give read) [] t) whole (gives-it read)) in
-    let r₂ = then (readSection readPointer) (λ (es : List Entry). times 7 readLevel >>= λ gs. give (record { files = take (p .levels) gs; pointers = placed es (replicate (p .levels) none); counters = fromFive ns }))
+    let r₂ = then (readSection readPointer) (λ (es : List Entry). times levelCount readLevel >>= λ gs. give (record { files = take (p .levels) gs; pointers = placed es (replicate (p .levels) none); counters = fromFive ns }))
     pb (lb ++ []) es (asRead s) (reads-section readPointer writeEntry es (λ e m. reads-entry e (w .pointers e m)) (w .few-pointers)) r₃ in
     reads-as (readState p) (cb ++ (pb ++ (lb ++ []))) (encode s) (asRead s) (simp (append-assoc, append-nil))
-    (then (readSection (readNumber 8)) (λ (ns : List ℕ). readSection readPointer >>= λ es. times 7 readLevel >>= λ gs. give (record { files = take (p .levels) gs; pointers = placed es (replicate (p .levels) none); counters = fromFive ns }))
-    cb (pb ++ (lb ++ [])) ns (asRead s) (reads-section (readNumber 8) (bytes 8) ns (λ n m. reads-number 8 n (w .counters n m)) (omega arith)) r₂)
+    (then (readSection (readNumber numberLong)) (λ (ns : List ℕ). readSection readPointer >>= λ es. times levelCount readLevel >>= λ gs. give (record { files = take (p .levels) gs; pointers = placed es (replicate (p .levels) none); counters = fromFive ns }))
+    cb (pb ++ (lb ++ [])) ns (asRead s) (reads-section (readNumber numberLong) (bytes numberLong) ns (λ n m. reads-number 8 n (w .counters n m)) (omega arith)) r₂)
   where
     fss : List (List File)
-    fss = map (λ l. inReadOrder (level s l)) (upFrom 0 7)
+    fss = map (λ l. inReadOrder (level s l)) (upFrom 0 levelCount)
 
     read : State
     read = record { files = take (p .levels) fss; pointers = placed (entries 0 (s .pointers)) (replicate (p .levels) none); counters = s .counters }
 
-    levels : Reads (times 7 readLevel) (join (map (λ l. writeLevel (level s l)) (upFrom 0 7))) fss
+    levels : Reads (times levelCount readLevel) (join (map (λ l. writeLevel (level s l)) (upFrom 0 levelCount))) fss
     levels = seven-levels s w
 
     files-are : take (p .levels) fss ≡ map inReadOrder (s .files)
-    files-are = rw (← nf) (levels-back (level s) 0 7 (s .files) (λ i q. let e : 0 + i ≡ i = omega arith in rw e) (omega arith))
+    files-are = rw (← nf) (levels-back (level s) 0 levelCount (s .files) (λ i q. let e : 0 + i ≡ i = omega arith in rw e) (omega arith))
 
     pointers-are : placed (entries 0 (s .pointers)) (replicate (p .levels) none) ≡ s .pointers
     pointers-are = rw (← np) (placed-back (s .pointers) 0 [] refl)
@@ -216,7 +220,7 @@ reads-state p s w nf np small =
     whole : read ≡ asRead s
     whole = λ i. record { files = files-are i; pointers = pointers-are i; counters = s .counters }
 
--- a level whose files stand apart is read back as it is
+-- a level whose files are apart is read back as it is
 pub apart-as-read : (fs : List File) → ((f : File) → In f fs → before (f .largest) (f .smallest) ≡ false) → apart fs ≡ true → distinct (numbers fs) ≡ true → fs ≡ inReadOrder fs
 unfolding inReadOrder
 apart-as-read fs g c d = sorted-one bySmallest bySmallest-order fs (inReadOrder fs) (apart-sorted fs g c) (sort-chain bySmallest bySmallest-order (sort byNumber fs))
@@ -225,6 +229,7 @@ apart-as-read fs g c d = sorted-one bySmallest bySmallest-order fs (inReadOrder 
     (apart-ties fs g c)
 
 -- ---- the state as read is well-formed
+-- its files are the state's
 join-read : (fss : List (List File)) (f : File) → In f (join (map inReadOrder fss)) → In f (join fss)
 unfolding join inReadOrder
 join-read [] f m = m
@@ -234,13 +239,13 @@ join-read (fs ∷ fss) f m = go (join-read fss f) (append-cases (inReadOrder fs)
     go ih (inl k) = in-left (join fss) (sort-in byNumber fs f .0 (sort-in bySmallest (sort byNumber fs) f .0 k))
     go ih (inr k) = in-right fs (ih k)
 
--- the same tallies
+-- each file is there as often
 as-read-tally : (q : File → Bool) (fss : List (List File)) → tally q (join (map inReadOrder fss)) ≡ tally q (join fss)
 unfolding join inReadOrder
 as-read-tally q [] = refl
 as-read-tally q (fs ∷ fss) = omega (arith, tally-append q (inReadOrder fs) (join (map inReadOrder fss)), tally-append q fs (join fss), sort-tally bySmallest q (sort byNumber fs), sort-tally byNumber q fs, as-read-tally q fss)
 
--- as many files
+-- there are as many files
 as-read-length : (fss : List (List File)) → length (join (map inReadOrder fss)) ≡ length (join fss)
 unfolding join inReadOrder
 as-read-length [] = refl
@@ -252,7 +257,7 @@ unfolding inOrder inReadOrder
 one-ordered zero fs g d h = sort-chain bySmallest bySmallest-order (sort byNumber fs)
 one-ordered (suc l) fs g d h = subst (λ (gs : List File). apart gs ≡ true) (apart-as-read fs g h d) h
 
--- so are all levels
+-- the same for all levels
 all-ordered : (l : ℕ) (fss : List (List File)) → ((f : File) → In f (join fss) → before (f .largest) (f .smallest) ≡ false) → distinct (numbers (join fss)) ≡ true → levelwise inOrder l fss ≡ true → levelwise inOrder l (map inReadOrder fss) ≡ true
 unfolding levelwise join
 all-ordered l [] g d h = refl
@@ -287,6 +292,7 @@ as-read-formed p s w = record {
     )
 
 -- ---- it writes the same bytes
+-- the state as read has the same snapshot
 as-read-bytes : (p : Profile) (s : State) → WF p s → encode (asRead s) ≡ encode s
 unfolding asRead level inReadOrder sort
 as-read-bytes p s w = same-bytes (asRead s) s refl refl (λ l.
@@ -296,7 +302,8 @@ as-read-bytes p s w = same-bytes (asRead s) s refl refl (λ l.
     ap (λ (gs : List File). sort byNumber gs) e ∙ same-by-number (inReadOrder fs) fs (sort-distinct bySmallest (sort byNumber fs) (sort-distinct byNumber fs d)) d
     (λ f. (λ m. sort-in byNumber fs f .0 (sort-in bySmallest (sort byNumber fs) f .0 m), λ m. sort-in bySmallest (sort byNumber fs) f .1 (sort-in byNumber fs f .1 m))))
 
--- ---- there and back
+-- ---- writing and reading back
+-- every well-formed state is read back, level 0 ties by rising number
 pub decode-encode : (p : Profile) → Fits p → (s : State) → WF p s → decode p (encode s) ≡ some (asRead s)
 unfolding decode accept Reads
 decode-encode p fit s w =

@@ -15,15 +15,15 @@ pub record Score : Type 0 where
   pub part : ℕ
   pub whole : ℕ
 
--- a/b < c/d
+-- the first score is below the second, by cross multiplication
 unfoldable pub lower : Score → Score → Bool
 lower a b = ltb (a .part * b .whole) (b .part * a .whole)
 
--- the byte limit of level 1 + l: 10485760, 104857600, ..
+-- the byte limit of level l + 1: 10485760, 104857600, ..
 unfoldable pub byteLimit : ℕ → ℕ
 byteLimit l = 10485760 * 10 ^ l
 
--- level 0: files / 4; deeper: bytes over the level's limit
+-- the score of a level: files / 4 at level 0, bytes over the limit deeper
 unfoldable pub score : State → ℕ → Score
 score s zero = record { part = length (level s 0); whole = 4 }
 score s (suc l) = record { part = total (level s (suc l)); whole = byteLimit l }
@@ -32,7 +32,7 @@ score s (suc l) = record { part = total (level s (suc l)); whole = byteLimit l }
 unfoldable pub scored : Profile → List ℕ
 scored p = upFrom 0 (p .levels - 1)
 
--- the level's score is lower than no level's
+-- no level's score is above this one's
 unfoldable pub hasGreatest : Profile → State → ℕ → Bool
 hasGreatest p s l = all (λ j. not (lower (score s l) (score s j))) (scored p)
 
@@ -44,6 +44,6 @@ levelToCompact p s = Option·getD (find (hasGreatest p s) (scored p)) 0
 unfoldable pub due : Score → Bool
 due c = leb (c .whole) (c .part)
 
--- one f64 division of the two numbers, each converted
+-- the score as one f64 division of the two numbers, each converted
 unfoldable pub reported : Score → Float
 reported c = div binary64 (ofInt binary64 (pos (c .part))) (ofInt binary64 (pos (c .whole)))

@@ -18,11 +18,12 @@ use lib.Ieee.Fits.{down-pos}
 use Rattle.lemmas.specs.Order.{clash, same}
 use Rattle.lemmas.specs.Lists.{all, find, sum, upFrom}
 use Rattle.lemmas.specs.ListLaws.{all-in, join-in, join-length, upFrom-in, find-upFrom}
-use Rattle.model.specs.File.{Profile, File, State, level, total, maxSize}
+use Rattle.model.specs.File.{Profile, File, State, level, total, maxSize, levelCount}
 use Rattle.model.specs.Score.{Score, lower, byteLimit, score, scored, hasGreatest, levelToCompact, reported}
 use Rattle.model.specs.Formed.{WF, goodFile-says}
 
--- ---- fractions with something below the line
+-- ---- fractions with a denominator above 0
+-- the denominator is above 0
 abbrev pub Proper : Score → Type 0
 Proper a = zero < a .whole
 
@@ -31,7 +32,7 @@ pub lower-irrefl : (a : Score) → lower a a ≡ false
 unfolding lower
 lower-irrefl a = le-ltb (a .part * a .whole) (a .part * a .whole) (omega arith)
 
--- lower than lower is lower
+-- "lower" is transitive
 pub lower-trans : (a b c : Score) → Proper a → Proper b → Proper c → lower a b ≡ true → lower b c ≡ true → lower a c ≡ true
 unfolding lower
 lower-trans a b c pa pb pc h k =
@@ -39,7 +40,7 @@ lower-trans a b c pa pb pc h k =
     let y = mul-lt-mul-of-pos-right (ltb-true (b .part * c .whole) (c .part * b .whole) k) pa in
     lt-ltb (a .part * c .whole) (c .part * a .whole) (lt-of-mul-lt-mul-right (b .whole) (omega arith))
 
--- not lower than not lower is not lower
+-- "not lower" is transitive
 pub lower-ntrans : (a b c : Score) → Proper a → Proper b → Proper c → lower a b ≡ false → lower b c ≡ false → lower a c ≡ false
 unfolding lower
 lower-ntrans a b c pa pb pc h k =
@@ -47,7 +48,7 @@ lower-ntrans a b c pa pb pc h k =
     let y = mul-le-mul-right (a .whole) (ltb-false (b .part * c .whole) (c .part * b .whole) k) in
     le-ltb (a .part * c .whole) (c .part * a .whole) (le-of-mul-le-mul-right {k = b .whole} (omega arith) pb)
 
--- the limits: each is ten times the one before, and none is 0
+-- each limit is ten times the one before
 pub limit-ten : (l : ℕ) → byteLimit (suc l) ≡ 10 * byteLimit l
 unfolding byteLimit
 limit-ten l = omega arith
@@ -57,7 +58,7 @@ pub ten-pow : (l : ℕ) → 1 ≤ 10 ^ l
 ten-pow zero = omega arith
 ten-pow (suc l) = omega (arith, ten-pow l)
 
--- no score has 0 below the line
+-- no score has the denominator 0
 pub score-proper : (s : State) (l : ℕ) → Proper (score s l)
 unfolding score byteLimit
 score-proper s zero = omega arith
@@ -68,12 +69,13 @@ pub limits-are : map byteLimit (upFrom 0 5) ≡ 10485760 ∷ 104857600 ∷ 10485
 unfolding byteLimit upFrom
 limits-are = refl
 
--- ---- the lowest of the greatest, found by going through the levels once: among the best so far and n levels from l on
+-- ---- the lowest of the levels with the greatest score, in one pass
+-- the best level so far against the n levels from l on
 unfoldable pub bestFrom : (ℕ → Score) → ℕ → ℕ → ℕ → ℕ
 bestFrom sc best l zero = best
 bestFrom sc best l (suc n) = bestFrom sc (cond (lower (sc best) (sc l)) l best) (suc l) n
 
--- the lowest of the greatest among the first n
+-- the lowest of the first n levels with the greatest score
 pub record LowestGreatest (sc : ℕ → Score) (n best : ℕ) : Type 0 where
   pub among : best < n
   pub greatest : (j : ℕ) → j < n → lower (sc best) (sc j) ≡ false
@@ -111,6 +113,7 @@ module _ (sc : ℕ → Score) (proper : (l : ℕ) → Proper (sc l)) where
       go true e = record { among = omega arith; greatest = each (λ j. lower (sc l) (sc j) ≡ false) (λ j i. not-above j (under e j (g .greatest j i))) (lower-irrefl (sc l)); lowest = λ j i. under e j (g .greatest j i) }
       go false e = record { among = omega (arith, g .among); greatest = each (λ j. lower (sc best) (sc j) ≡ false) (g .greatest) e; lowest = g .lowest }
 
+  -- the pass finds it
   pub best-is : (n l best : ℕ) → LowestGreatest sc l best → LowestGreatest sc (l + n) (bestFrom sc best l n)
   unfolding bestFrom
   best-is zero l best g = let e : l ≡ l + 0 = omega arith in subst (λ (k : ℕ). LowestGreatest sc k best) e g
@@ -120,7 +123,7 @@ module _ (sc : ℕ → Score) (proper : (l : ℕ) → Proper (sc l)) where
       subst (λ (k : ℕ). LowestGreatest sc k (bestFrom sc b (suc l) n)) e (best-is n (suc l) b (one-more l best g))
 
 -- ---- the level to compact
--- such a level is the one that the definition finds
+-- such a level is the one that `levelToCompact` finds
 found : (p : Profile) (s : State) (b : ℕ) → LowestGreatest (score s) (p .levels - 1) b → find (hasGreatest p s) (scored p) ≡ some b
 unfolding hasGreatest scored
 found p s b g = find-upFrom (hasGreatest p s) 0 (p .levels - 1) b (omega arith) (omega (arith, g .among)) passes fails
@@ -138,7 +141,7 @@ found p s b g = find-upFrom (hasGreatest p s) 0 (p .levels - 1) b (omega arith) 
             let m = upFrom-in 0 (p .levels - 1) b .1 (omega arith, omega (arith, g .among)) in
             clash (g .lowest j i) (not-true (lower (score s j) (score s b)) (all-in (λ k. not (lower (score s j) (score s k))) (upFrom 0 (p .levels - 1)) .0 e b m))
 
--- for a store of two levels or more, going through the levels once finds it
+-- with two levels or more, one pass finds such a level
 best-among : (p : Profile) (s : State) → 2 ≤ p .levels → LowestGreatest (score s) (p .levels - 1) (bestFrom (score s) 0 1 (p .levels - 2))
 best-among p s h =
     let e : 1 + (p .levels - 2) ≡ p .levels - 1 = omega arith in
@@ -153,7 +156,7 @@ best-among p s h =
     base : LowestGreatest (score s) 1 0
     base = record { among = omega arith; greatest = only; lowest = λ j i. none-before j i }
 
--- the level to compact is the one found by going through the levels once
+-- the level to compact is the one found in one pass
 pub best-level : (p : Profile) (s : State) → 2 ≤ p .levels → bestFrom (score s) 0 1 (p .levels - 2) ≡ levelToCompact p s
 unfolding levelToCompact
 best-level p s h = let e = found p s (bestFrom (score s) 0 1 (p .levels - 2)) (best-among p s h) in rw e
@@ -171,8 +174,8 @@ one-level sc n a b g h = go (ltb a b) (ltb b a) refl refl
     go false true p q = clash (g .lowest b (ltb-true b a q)) (h .greatest a (g .among))
     go false false p q = omega (arith, ltb-false a b p, ltb-false b a q)
 
--- ---- what is converted for the report loses nothing: both numbers of a well-formed state's score are below 2^53
--- the bytes of files that are no larger than 2^40
+-- ---- the conversions lose nothing: both numbers of a well-formed state's score are below 2^53
+-- n files of at most 2^40 bytes have at most n times as many
 pub total-most : (fs : List File) → ((f : File) → In f fs → f .size ≤ maxSize) → total fs ≤ length fs * maxSize
 unfolding total sum
 total-most [] h = omega arith
@@ -188,23 +191,24 @@ limit-small (suc (suc (suc zero))) h = omega arith
 limit-small (suc (suc (suc (suc zero)))) h = omega arith
 limit-small (suc (suc (suc (suc (suc l))))) h = absurd (omega arith)
 
--- both numbers are below 2^53, so that each is converted without loss
+-- both numbers are below 2^53, so each is converted without loss
 pub record Lossless (c : Score) : Type 0 where
   pub part : c .part < 2 ^ 53
   pub whole : c .whole < 2 ^ 53
 
--- so it is for every level that has a score
-pub lossless : (p : Profile) (s : State) → p .levels ≤ 7 → p .room < 2 ^ 13 → WF p s → (l : ℕ) → suc l < p .levels → Lossless (score s l)
-unfolding score maxSize level
+-- this holds for every level that has a score
+pub lossless : (p : Profile) (s : State) → p .levels ≤ levelCount → p .room < 2 ^ 13 → WF p s → (l : ℕ) → suc l < p .levels → Lossless (score s l)
+unfolding score level
 lossless p s few small w zero h = record { part = omega (arith, join-length (s .files) 0, w .room); whole = omega arith }
 lossless p s few small w (suc l) h =
     let fs = getD (s .files) (suc l) [] in
     let most = total-most fs (λ f m. goodFile-says p f .0 (w .good f (join-in (s .files) (suc l) f m)) .size) in
     let n : length fs ≤ 2 ^ 13 - 1 = omega (arith, join-length (s .files) (suc l), w .room) in
-    let b : length fs * 2 ^ 40 ≤ (2 ^ 13 - 1) * 2 ^ 40 = mul-le-mul-right (2 ^ 40) n in
+    let b : length fs * maxSize ≤ (2 ^ 13 - 1) * maxSize = mul-le-mul-right maxSize n in
     record { part = omega arith; whole = limit-small l (omega arith) }
 
--- ---- the score reported is the exact fraction, rounded once
+-- ---- the reported score is the exact fraction rounded once
+-- a number below 2^53 is converted exactly
 exact : (n : ℕ) → n < 2 ^ 53 → HasValue (ofInt binary64 (pos n)) false n 1
 unfolding ofInt
 exact n h =
@@ -212,17 +216,17 @@ exact n h =
     (lt-of-lt-of-le (shl-lt 53 (low binary64) h) (pow-mono {i = 53 + low binary64} {j = low binary64 + 1024} (lit≤ tt)))
     (sym (mul-one (n * 2 ^ low binary64)))
 
--- fractions multiplied out
+-- equal fractions, multiplied out
 cross : (a b m n x y : ℕ) → m ≡ a * x → n ≡ b * y → m * y * b ≡ a * (n * x)
 cross a b m n x y p q = rw (p, q) (simp (mul-assoc, mul-comm, mul-left-comm))
 
--- a number with a value above 0 is not 0
+-- a factor of a value above 0 is not 0
 nonzero : (n u b y : ℕ) → n * u ≡ b * y → 0 < b * y → n ≡ 0 → ⊥
 nonzero n u b y e h z =
     let k : 0 * u ≡ b * y = ap (λ (w : ℕ). w * u) (sym z) ∙ e in
     omega (arith, zero-mul u)
 
--- a division of two numbers that are held exactly rounds their fraction
+-- dividing two numbers that are held exactly rounds their fraction once
 div-at : (x y : Float) (a b : ℕ) → 0 < b → HasValue x false a 1 → HasValue y false b 1 → div binary64 x y ≡ round binary64 false a b
 unfolding div
 div-at nan y a b p h k = absurd h
@@ -237,7 +241,7 @@ div-at (fin s m e) (fin t n d) a b p h k =
     rw (h .0, k .0, ne-eqb n 0 (nonzero n (up d) b (down d) hy bp))
     (round-same binary64 false (m * up e * down d) (n * up d * down e) a b (mul-pos np (down-pos e)) p (cross a b (m * up e) (n * up d) (down e) (down d) hx hy))
 
--- so the score reported is the exact fraction, rounded once
+-- so the reported score is the exact fraction rounded once
 pub reported-once : (c : Score) → Proper c → Lossless c → reported c ≡ round binary64 false (c .part) (c .whole)
 unfolding reported
 reported-once c p h = div-at (ofInt binary64 (pos (c .part))) (ofInt binary64 (pos (c .whole))) (c .part) (c .whole) p (exact (c .part) (h .part)) (exact (c .whole) (h .whole))

@@ -1,4 +1,4 @@
--- A snapshot determines what it was written from: each part of it says where it ends. Assumes nothing.
+-- A snapshot determines the state that it was written from, since each part shows where it ends. Assumes nothing.
 use Prim.Native.Nat.{ℕ, zero, suc, _+_, _*_, _^_, _<_, _≤_}
 use mathlib.Core.Path.{_≡_, refl, ap, sym, _∙_, subst, fun-ext}
 use mathlib.Core.Bool.{true}
@@ -10,17 +10,17 @@ use native.Mathlib.Omega.{arith}
 use Rattle.lemmas.specs.Lists.{sort, join, sum, upFrom}
 use Rattle.lemmas.specs.ListLaws.{sort-in, sort-length, join-in, join-length, append-apart, joined-most, stretch-few}
 use Rattle.lemmas.specs.Little.{bytes, bytes-length, bytes-apart}
-use Rattle.model.specs.Key.{Key, goodKey}
-use Rattle.model.specs.File.{Profile, full, File, Counters, State, level, maxCounter, maxSize, goodFile, apart, goodPointer}
-use Rattle.model.specs.Snapshot.{byNumber, writeKey, writeFile, Entry, entries, writeEntry, section, writeLevel, fiveOf, encode}
+use Rattle.model.specs.Key.{Key, goodKey, trailerBytes}
+use Rattle.model.specs.File.{Profile, full, File, Counters, State, level, maxCounter, maxSize, goodFile, apart, goodPointer, levelCount}
+use Rattle.model.specs.Snapshot.{byNumber, writeKey, writeFile, Entry, entries, writeEntry, section, writeLevel, fiveOf, encode, fileLong, entryLong, freshLong, longestSnapshot, byteLong, countLong, numberLong}
 use Rattle.model.specs.KeyLaws.{goodKey-says}
 use Rattle.model.specs.Formed.{WF, goodFile-says}
 
--- a way of writing that says where it ends: what stands behind tells nothing of it
+-- a way of writing from which the end of a part is known, whatever follows
 pub record Delimited {A : Type 0} (Good : A → Type 0) (w : A → List ℕ) : Type 0 where
   pub apart : (a b : A) → Good a → Good b → (x y : List ℕ) → w a ++ x ≡ w b ++ y → (a ≡ b) × (x ≡ y)
 
--- a key says where it ends
+-- the end of a key is known
 key-apart : Delimited (λ (k : Key). length k < 256) writeKey
 unfolding writeKey
 key-apart = record {
@@ -36,13 +36,13 @@ pub record Writable (f : File) : Type 0 where
   pub smallest : length (f .smallest) < 256
   pub largest : length (f .largest) < 256
 
--- a file says where it ends
+-- the end of a file is known
 file-apart : Delimited Writable writeFile
 unfolding writeFile
 file-apart = record {
   apart = λ a b g h x y e.
       let r₁ = bytes-apart 8 (a .number) (b .number) (g .number) (h .number)
-      (bytes 8 (a .size) ++ (writeKey (a .smallest) ++ (writeKey (a .largest) ++ x))) (bytes 8 (b .size) ++ (writeKey (b .smallest) ++ (writeKey (b .largest) ++ y))) (simp append-assoc at e) in
+      (bytes numberLong (a .size) ++ (writeKey (a .smallest) ++ (writeKey (a .largest) ++ x))) (bytes numberLong (b .size) ++ (writeKey (b .smallest) ++ (writeKey (b .largest) ++ y))) (simp append-assoc at e) in
       let r₂ = bytes-apart 8 (a .size) (b .size) (g .size) (h .size) (writeKey (a .smallest) ++ (writeKey (a .largest) ++ x)) (writeKey (b .smallest) ++ (writeKey (b .largest) ++ y)) (r₁ .1) in
       let r₃ = key-apart .apart (a .smallest) (b .smallest) (g .smallest) (h .smallest) (writeKey (a .largest) ++ x) (writeKey (b .largest) ++ y) (r₂ .1) in
       let r₄ = key-apart .apart (a .largest) (b .largest) (g .largest) (h .largest) x y (r₃ .1) in
@@ -54,7 +54,7 @@ pub record WritableEntry (e : Entry) : Type 0 where
   pub level : e .level < 256
   pub key : length (e .key) < 256
 
--- a pointer says where it ends
+-- the end of a pointer is known
 entry-apart : Delimited WritableEntry writeEntry
 unfolding writeEntry
 entry-apart = record {
@@ -64,12 +64,13 @@ entry-apart = record {
       (λ i. record { level = r₁ .0 i; key = r₂ .0 i }, r₂ .1);
 }
 
--- a counter says where it ends
-number-apart : Delimited (λ n. n < 256 ^ 8) (bytes 8)
+-- the end of a counter is known
+number-apart : Delimited (λ n. n < 256 ^ 8) (bytes numberLong)
 number-apart = record { apart = bytes-apart 8 }
 
 -- ---- sections
 module _ {A : Type 0} (Good : A → Type 0) (w : A → List ℕ) (d : Delimited Good w) where
+  -- the ends of equally many parts are known
   parts-apart : (xs ys : List A) → ((a : A) → In a xs → Good a) → ((a : A) → In a ys → Good a) → (x y : List ℕ)
       → length xs ≡ length ys → join (map w xs) ++ x ≡ join (map w ys) ++ y → (xs ≡ ys) × (x ≡ y)
   unfolding join
@@ -83,9 +84,11 @@ module _ {A : Type 0} (Good : A → Type 0) (w : A → List ℕ) (d : Delimited 
       let q : as′ ≡ bs = t .0 in
       (cc, t .1)
 
+  -- the parts are good, and their count fits two bytes
   abbrev Parts : List A → Type 0
   Parts xs = ((a : A) → In a xs → Good a) × (length xs < 65536)
 
+  -- the end of a section is known
   section-apart : (xs ys : List A) → Parts xs → Parts ys → (x y : List ℕ) → section w xs ++ x ≡ section w ys ++ y → (xs ≡ ys) × (x ≡ y)
   unfolding section
   section-apart xs ys g h x y e =
@@ -93,11 +96,12 @@ module _ {A : Type 0} (Good : A → Type 0) (w : A → List ℕ) (d : Delimited 
       parts-apart xs ys (g .0) (h .0) x y (r .0) (r .1)
 
 -- ---- levels
+-- a level whose files fit their widths and whose count fits two bytes
 pub record WritableLevel (fs : List File) : Type 0 where
   pub files : (f : File) → In f fs → Writable f
   pub few : length (sort byNumber fs) < 65536
 
--- a level says where it ends
+-- the end of a level is known
 level-apart : (fs gs : List File) → WritableLevel fs → WritableLevel gs → (x y : List ℕ) → writeLevel fs ++ x ≡ writeLevel gs ++ y → (sort byNumber fs ≡ sort byNumber gs) × (x ≡ y)
 unfolding writeLevel
 level-apart fs gs g h x y e = section-apart Writable writeFile file-apart (sort byNumber fs) (sort byNumber gs)
@@ -145,25 +149,26 @@ entries-same l (some k ∷ ps) (some j ∷ qs) n e =
     cc
 
 -- ---- the whole
+-- a state whose parts fit their widths
 pub record Storable (s : State) : Type 0 where
   pub counters : (n : ℕ) → In n (fiveOf (s .counters)) → n < 256 ^ 8
   pub pointers : (e : Entry) → In e (entries 0 (s .pointers)) → WritableEntry e
   pub few-pointers : length (entries 0 (s .pointers)) < 65536
   pub levels : (l : ℕ) → WritableLevel (level s l)
 
--- what two states that write the same bytes share
+-- two states with the same counters, pointers and files at each level
 pub record SameWritten (s t : State) : Type 0 where
   pub counters : s .counters ≡ t .counters
   pub pointers : s .pointers ≡ t .pointers
-  pub levels : (l : ℕ) → l < 7 → sort byNumber (level s l) ≡ sort byNumber (level t l)
+  pub levels : (l : ℕ) → l < levelCount → sort byNumber (level s l) ≡ sort byNumber (level t l)
 
--- states that write the same bytes share all that
+-- states that write the same bytes have these in common
 pub encode-apart : (s t : State) → Storable s → Storable t → length (s .pointers) ≡ length (t .pointers) → encode s ≡ encode t → SameWritten s t
 unfolding encode fiveOf
 encode-apart s t g h n e =
-    let sl = join (map (λ l. writeLevel (level s l)) (upFrom 0 7)) in
-    let tl = join (map (λ l. writeLevel (level t l)) (upFrom 0 7)) in
-    let r₁ = section-apart (λ n. n < 256 ^ 8) (bytes 8) number-apart (fiveOf (s .counters)) (fiveOf (t .counters)) (g .counters, lit) (h .counters, lit)
+    let sl = join (map (λ l. writeLevel (level s l)) (upFrom 0 levelCount)) in
+    let tl = join (map (λ l. writeLevel (level t l)) (upFrom 0 levelCount)) in
+    let r₁ = section-apart (λ n. n < 256 ^ 8) (bytes numberLong) number-apart (fiveOf (s .counters)) (fiveOf (t .counters)) (g .counters, lit) (h .counters, lit)
     (section writeEntry (entries 0 (s .pointers)) ++ sl) (section writeEntry (entries 0 (t .pointers)) ++ tl) (simp append-assoc at e) in
     let r₂ = section-apart WritableEntry writeEntry entry-apart (entries 0 (s .pointers)) (entries 0 (t .pointers)) (g .pointers, g .few-pointers) (h .pointers, h .few-pointers) sl tl (r₁ .1) in
     let five = r₁ .0 in
@@ -176,7 +181,7 @@ encode-apart s t g h n e =
         previous = at five 4 i;
       };
       pointers = entries-same 0 (s .pointers) (t .pointers) n (r₂ .0);
-      levels = λ l b. subst (λ (x : ℕ). sort byNumber (level s x) ≡ sort byNumber (level t x)) (omega arith) (levels-apart (level s) (level t) (g .levels) (h .levels) 0 7 (r₂ .1) l b);
+      levels = λ l b. subst (λ (x : ℕ). sort byNumber (level s x) ≡ sort byNumber (level t x)) (omega arith) (levels-apart (level s) (level t) (g .levels) (h .levels) 0 levelCount (r₂ .1) l b);
     }
   where
     lit : 5 < 65536
@@ -186,29 +191,30 @@ encode-apart s t g h n e =
     at q i = ap (λ (x : List ℕ). getD x i 0) q
 
 -- ---- what fits in a snapshot
+-- a profile whose states all fit
 pub record Fits (p : Profile) : Type 0 where
-  pub levels : p .levels ≤ 7
+  pub levels : p .levels ≤ levelCount
   pub keys : p .longest + 8 < 256
   pub room : p .room < 65536
 
--- the full profile does
+-- the full profile fits
 pub full-fits : Fits full
 unfolding full
 full-fits = record { levels = omega arith; keys = omega arith; room = omega arith }
 
--- the bounds on a good file
+-- bounds on a file
 pub record FileFacts (p : Profile) (f : File) : Type 0 where
   pub smallest : length (f .smallest) ≤ p .longest + 8
   pub largest : length (f .largest) ≤ p .longest + 8
   pub size : f .size ≤ maxSize
 
--- a good file is within them
+-- a good file keeps these bounds
 pub file-facts : (p : Profile) (f : File) → goodFile p f ≡ true → FileFacts p f
 file-facts p f h =
     let g = goodFile-says p f .0 h in
     record { smallest = goodKey-says (p .longest) (f .smallest) .0 (g .smallest) .few-bytes; largest = goodKey-says (p .longest) (f .largest) .0 (g .largest) .few-bytes; size = g .size }
 
--- no more entries than pointers
+-- there are no more entries than pointers
 pub entries-few : (l : ℕ) (ps : List (Option Key)) → length (entries l ps) ≤ length ps
 unfolding entries
 entries-few l [] = omega arith
@@ -225,7 +231,7 @@ entries-among l (some k ∷ ps) e (there m) = let r = entries-among (suc l) ps e
 
 -- a well-formed state fits in a snapshot
 pub storable : (p : Profile) (s : State) → Fits p → WF p s → Storable s
-unfolding maxCounter maxSize goodPointer level
+unfolding goodPointer level
 storable p s fit w = record {
   counters = λ n m. omega (arith, w .counters n m);
   pointers = λ e m. let r = entries-among 0 (s .pointers) e m in record {
@@ -244,72 +250,73 @@ storable p s fit w = record {
   };
 }
 
--- ---- what is written depends on nothing but the counters, the pointers and the levels by number
+-- ---- the length of a snapshot, and what its bytes depend on
+-- the bytes depend on the counters, the pointers and the files by number alone
 pub same-bytes : (s t : State) → s .counters ≡ t .counters → s .pointers ≡ t .pointers → ((l : ℕ) → sort byNumber (level s l) ≡ sort byNumber (level t l)) → encode s ≡ encode t
 unfolding encode writeLevel
 same-bytes s t c q h =
     let lv : _≡_ {A = ℕ → List ℕ} (λ l. section writeFile (sort byNumber (level s l))) (λ l. section writeFile (sort byNumber (level t l))) = fun-ext (λ l. ap (λ (fs : List File). section writeFile fs) (h l)) in
-    ap (λ (x : Counters). section (bytes 8) (fiveOf x) ++ section writeEntry (entries 0 (s .pointers)) ++ join (map (λ l. section writeFile (sort byNumber (level s l))) (upFrom 0 7))) c
-    ∙ ap (λ (x : List (Option Key)). section (bytes 8) (fiveOf (t .counters)) ++ section writeEntry (entries 0 x) ++ join (map (λ l. section writeFile (sort byNumber (level s l))) (upFrom 0 7))) q
-    ∙ ap (λ (g : ℕ → List ℕ). section (bytes 8) (fiveOf (t .counters)) ++ section writeEntry (entries 0 (t .pointers)) ++ join (map g (upFrom 0 7))) lv
+    ap (λ (x : Counters). section (bytes numberLong) (fiveOf x) ++ section writeEntry (entries 0 (s .pointers)) ++ join (map (λ l. section writeFile (sort byNumber (level s l))) (upFrom 0 levelCount))) c
+    ∙ ap (λ (x : List (Option Key)). section (bytes numberLong) (fiveOf (t .counters)) ++ section writeEntry (entries 0 x) ++ join (map (λ l. section writeFile (sort byNumber (level s l))) (upFrom 0 levelCount))) q
+    ∙ ap (λ (g : ℕ → List ℕ). section (bytes numberLong) (fiveOf (t .counters)) ++ section writeEntry (entries 0 (t .pointers)) ++ join (map g (upFrom 0 levelCount))) lv
 
 -- a section: its count, then its parts
 pub section-length : {A : Type 0} (w : A → List ℕ) (xs : List A) → length (section w xs) ≡ 2 + length (join (map w xs))
 unfolding section
-section-length w xs = omega (arith, length-append (bytes 2 (length xs)) (join (map w xs)), bytes-length 2 (length xs))
+section-length w xs = omega (arith, length-append (bytes countLong (length xs)) (join (map w xs)), bytes-length 2 (length xs))
 
--- a section has at most its count and so many bytes for each entry
+-- a section with parts of at most c bytes has at most 2 and c for each
 section-most : {A : Type 0} (w : A → List ℕ) (c : ℕ) (xs : List A) → ((x : A) → In x xs → length (w x) ≤ c) → length (section w xs) ≤ 2 + length xs * c
 section-most w c xs h = let a = joined-most w c xs h in omega (arith, section-length w xs)
 
 -- a key: a length byte and its bytes
 pub writeKey-length : (k : Key) → length (writeKey k) ≡ 1 + length k
 unfolding writeKey
-writeKey-length k = omega (arith, length-append (bytes 1 (length k)) k, bytes-length 1 (length k))
+writeKey-length k = omega (arith, length-append (bytes byteLong (length k)) k, bytes-length 1 (length k))
 
--- a file: 18 bytes and its two keys
-pub writeFile-length : (f : File) → length (writeFile f) ≡ 18 + length (f .smallest) + length (f .largest)
+-- a file: its own bytes and its two keys
+pub writeFile-length : (f : File) → length (writeFile f) ≡ fileLong + length (f .smallest) + length (f .largest)
 unfolding writeFile
 writeFile-length f = omega (
   arith,
-  length-append (bytes 8 (f .number) ++ bytes 8 (f .size) ++ writeKey (f .smallest)) (writeKey (f .largest)),
-  length-append (bytes 8 (f .number) ++ bytes 8 (f .size)) (writeKey (f .smallest)),
-  length-append (bytes 8 (f .number)) (bytes 8 (f .size)),
+  length-append (bytes numberLong (f .number) ++ bytes numberLong (f .size) ++ writeKey (f .smallest)) (writeKey (f .largest)),
+  length-append (bytes numberLong (f .number) ++ bytes numberLong (f .size)) (writeKey (f .smallest)),
+  length-append (bytes numberLong (f .number)) (bytes numberLong (f .size)),
   bytes-length 8 (f .number),
   bytes-length 8 (f .size),
   writeKey-length (f .smallest),
   writeKey-length (f .largest),
 )
 
--- a file's bytes are at most so many
-file-most : (p : Profile) (f : File) → goodFile p f ≡ true → length (writeFile f) ≤ 2 * p .longest + 34
+-- the most bytes of a file
+file-most : (p : Profile) (f : File) → goodFile p f ≡ true → length (writeFile f) ≤ fileLong + 2 * (p .longest + trailerBytes)
 file-most p f g = let k = file-facts p f g in omega (arith, writeFile-length f, k .smallest, k .largest)
 
 -- a pointer: two bytes and its key
-pub writeEntry-length : (e : Entry) → length (writeEntry e) ≡ 2 + length (e .key)
+pub writeEntry-length : (e : Entry) → length (writeEntry e) ≡ entryLong + length (e .key)
 unfolding writeEntry
-writeEntry-length e = omega (arith, length-append (bytes 1 (e .level)) (writeKey (e .key)), bytes-length 1 (e .level), writeKey-length (e .key))
+writeEntry-length e = omega (arith, length-append (bytes byteLong (e .level)) (writeKey (e .key)), bytes-length 1 (e .level), writeKey-length (e .key))
 
--- a pointer's too
-entry-most : (p : Profile) (e : Entry) → goodKey (p .longest) (e .key) ≡ true → length (writeEntry e) ≤ p .longest + 10
+-- the most bytes of a pointer
+entry-most : (p : Profile) (e : Entry) → goodKey (p .longest) (e .key) ≡ true → length (writeEntry e) ≤ entryLong + (p .longest + trailerBytes)
 entry-most p e g = omega (arith, writeEntry-length e, goodKey-says (p .longest) (e .key) .0 g .few-bytes)
 
--- files of all levels
-held-most : (p : Profile) (s : State) → WF p s → sum (map (λ l. length (level s l)) (upFrom 0 7)) ≤ p .room
+-- there are at most `room` files in all levels
+held-most : (p : Profile) (s : State) → WF p s → sum (map (λ l. length (level s l)) (upFrom 0 levelCount)) ≤ p .room
 unfolding level
-held-most p s w = omega (arith, stretch-few (s .files) 0 7, w .room)
+held-most p s w = omega (arith, stretch-few (s .files) 0 levelCount, w .room)
 
--- pointers that are set
+-- there are at most as many set pointers as levels
 set-most : (p : Profile) (s : State) → WF p s → length (entries 0 (s .pointers)) ≤ p .levels
 set-most p s w = omega (arith, entries-few 0 (s .pointers), w .pointer-levels)
 
--- levels from k on
+-- the most bytes of n levels from k on
 levels-most : (p : Profile) (s : State) → WF p s → (k n : ℕ)
-    → length (join (map (λ l. writeLevel (level s l)) (upFrom k n))) ≤ n * 2 + sum (map (λ l. length (level s l)) (upFrom k n)) * (2 * p .longest + 34)
+    → length (join (map (λ l. writeLevel (level s l)) (upFrom k n))) ≤ n * 2 + sum (map (λ l. length (level s l)) (upFrom k n)) * (fileLong + 2 * (p .longest + trailerBytes))
 unfolding writeLevel join upFrom sum level
 levels-most p s w k zero = omega arith
 levels-most p s w k (suc n) =
-    let c = 2 * p .longest + 34 in
+    let c = fileLong + 2 * (p .longest + trailerBytes) in
     let fs = getD (s .files) k [] in
     let a = section-most writeFile c (sort byNumber fs) (λ f m. file-most p f (w .good f (join-in (s .files) k f (sort-in byNumber fs f .0 m)))) in
     let b = levels-most p s w (suc k) n in
@@ -319,20 +326,20 @@ levels-most p s w k (suc n) =
     = add-mul (length fs) (sum (map (λ l. length (getD (s .files) l [])) (upFrom (suc k) n))) c in
     omega (arith, length-append (section writeFile (sort byNumber fs)) r)
 
--- a bound on the length of a snapshot
-pub encode-length : (p : Profile) (s : State) → WF p s → length (encode s) ≤ 58 + p .levels * (p .longest + 10) + p .room * (2 * p .longest + 34)
+-- the most bytes of a snapshot
+pub encode-length : (p : Profile) (s : State) → WF p s → length (encode s) ≤ freshLong + p .levels * (entryLong + (p .longest + trailerBytes)) + p .room * (fileLong + 2 * (p .longest + trailerBytes))
 unfolding encode goodPointer fiveOf
 encode-length p s w =
     let es = entries 0 (s .pointers) in
-    let lv = join (map (λ l. writeLevel (level s l)) (upFrom 0 7)) in
-    let five = section-most (bytes 8) 8 (fiveOf (s .counters)) (λ n m. omega (arith, bytes-length 8 n)) in
-    let pointers = section-most writeEntry (p .longest + 10) es (λ e m. entry-most p e (w .pointers (some (e .key)) (entries-among 0 (s .pointers) e m .1))) in
-    let levels = levels-most p s w 0 7 in
-    let held = mul-le-mul-right (2 * p .longest + 34) (held-most p s w) in
-    let set = mul-le-mul-right (p .longest + 10) (set-most p s w) in
-    omega (arith, length-append (section (bytes 8) (fiveOf (s .counters)) ++ section writeEntry es) lv, length-append (section (bytes 8) (fiveOf (s .counters))) (section writeEntry es))
+    let lv = join (map (λ l. writeLevel (level s l)) (upFrom 0 levelCount)) in
+    let five = section-most (bytes numberLong) 8 (fiveOf (s .counters)) (λ n m. omega (arith, bytes-length 8 n)) in
+    let pointers = section-most writeEntry (entryLong + (p .longest + trailerBytes)) es (λ e m. entry-most p e (w .pointers (some (e .key)) (entries-among 0 (s .pointers) e m .1))) in
+    let levels = levels-most p s w 0 levelCount in
+    let held = mul-le-mul-right (fileLong + 2 * (p .longest + trailerBytes)) (held-most p s w) in
+    let set = mul-le-mul-right (entryLong + (p .longest + trailerBytes)) (set-most p s w) in
+    omega (arith, length-append (section (bytes numberLong) (fiveOf (s .counters)) ++ section writeEntry es) lv, length-append (section (bytes numberLong) (fiveOf (s .counters))) (section writeEntry es))
 
--- the longest is at most 25440 bytes
-pub encode-most : (s : State) → WF full s → length (encode s) ≤ 25440
+-- with the full profile this is the longest snapshot
+pub encode-most : (s : State) → WF full s → length (encode s) ≤ longestSnapshot
 unfolding full
 encode-most s w = encode-length full s w

@@ -1,1 +1,1 @@
-// Document 01 as definitions and laws: its substance is specs/.
+// Document 01 as definitions and laws. All of it is in specs/.

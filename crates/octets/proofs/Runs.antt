@@ -1,4 +1,4 @@
--- How two lists of bytes stand, from a place up to which they agree. Assumes nothing.
+-- The order of two lists of bytes that agree up to a place. Assumes nothing.
 use Prim.Native.Nat.{ℕ, _+_, _≤_, _<_}
 use mathlib.Core.Path.{_≡_, sym, _∙_}
 use mathlib.Core.Bool.{true}
@@ -14,7 +14,7 @@ use Rattle.lemmas.specs.Order.{lexb}
 use Rattle.lemmas.specs.Lex as lex
 use Rattle.octets.specs.declared.Order.the-variants.{Less, Equal, Greater}
 use Rattle.octets.specs.Octets.{standing}
-use Rattle.octets.specs.Standing.{stands-less, stands-greater, stands-equal}
+use Rattle.octets.specs.StandingLaws.{stands-less, stands-greater, stands-equal}
 
 -- they agree up to place i
 module _ (a b : List ℕ) (i : ℕ) (h : i ≤ length a) (k : i ≤ length b) (e : take i a ≡ take i b) where

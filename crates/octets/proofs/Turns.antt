@@ -1,4 +1,4 @@
--- The first bytes of two rooms compared word by word: what a turn of that loop says of them, and what its end says. Assumes nothing.
+-- The first bytes of two rooms compared word by word: facts for a turn of that loop, and for its end. Assumes nothing.
 use Prim.Native.Nat.{ℕ, _+_, _-_, _/_, _%_, _^_, _≤_, _<_, min}
 use mathlib.Core.Path.{_≡_, sym, _∙_}
 use mathlib.Core.Bool.{true}
@@ -13,7 +13,7 @@ use Rattle.lemmas.specs.Lex.{not-both}
 use Rattle.lemmas.specs.Order.{lexb}
 use Rattle.octets.specs.declared.Order.the-variants.{Less, Equal, Greater}
 use Rattle.octets.specs.Octets.{standing}
-use Rattle.octets.specs.Standing.{stands-less, stands-greater}
+use Rattle.octets.specs.StandingLaws.{stands-less, stands-greater}
 use Rattle.octets.proofs.Runs.{both-end, left-ends, right-ends, part-less, part-same}
 use Rattle.octets.proofs.Words.{word-front}
 

@@ -1,4 +1,4 @@
--- Parts of the word of eight bytes at a place: its first bytes, the others, one of them. Assumes nothing.
+-- Parts of the 8-byte word at a place: its first bytes, the others, one byte. Assumes nothing.
 use Prim.Native.Nat.{ℕ, _+_, _-_, _*_, _/_, _%_, _^_, _≤_, _<_, min}
 use mathlib.Core.Path.{_≡_, sym, ap, _∙_}
 use mathlib.Core.Bool.{true}

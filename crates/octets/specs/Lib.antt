@@ -1,2 +1,2 @@
 pub mod Octets
-pub mod Standing
+pub mod StandingLaws

@@ -1,4 +1,4 @@
--- An array of records, by itself and as a field of a struct: one machine value serves for both. Assumes nothing.
+-- An array of records by itself and as a field of a struct: both have the same machine value. Assumes nothing.
 use mathlib.Core.Path.{_≡_, sym, ap, _∙_}
 use Prim.Native.Nat.{ℕ}
 use mathlib.Core.List.{List, [], _∷_, map}

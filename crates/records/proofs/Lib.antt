@@ -1,3 +1,4 @@
 pub mod Arrays
+pub mod Places
 pub mod Shape
 pub mod Steps

@@ -1,4 +1,4 @@
--- What owning records tells: each record's keys have their room, and its number is one of 64 bits. Assumes nothing.
+-- What owning records says: each record's keys have their room, and its number fits 64 bits. Assumes nothing.
 use mathlib.Core.List.{List, [], _∷_, map}
 use Prim.Native.Nat.{ℕ, _^_, _<_}
 use native.Mathlib.Omega.{arith}
@@ -11,7 +11,8 @@ use denote.Shadow.{shadow}
 use Rattle.lemmas.specs.Each.{Each}
 use Rattle.lemmas.specs.Owned.{each-owned}
 use Rattle.records.specs.declared.FileRecord.{FileRecord}
-use Rattle.records.specs.RecordLaws.{Shaped, AllShaped, AllWords}
+use Rattle.records.specs.RecordLaws.{AllWords}
+use Rattle.records.specs.Record.{Shaped, AllShaped}
 use Rattle.records.proofs.FileRecord as record-type
 
 -- of one record

@@ -1,4 +1,4 @@
--- How a walk names the code of a turn of a loop from one of its statements on. Assumes nothing.
+-- Names for the code of a loop's turn from one of its statements on, for walks by hand. Assumes nothing.
 use mir.Syntax.{Body, skip, seq, assign, block, loop, cond, switch, exit, return, call}
 
 -- what comes after the first statement

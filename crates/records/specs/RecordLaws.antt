@@ -1,4 +1,4 @@
--- Laws of records: one file has one sound record, the blank record is one, which records an array holds, and what a run of it stands for. Assumes nothing.
+-- Laws of records: one file has one sound record, the blank record, arrays of records, and the files of a run. Assumes nothing.
 use Prim.Native.Nat.{ℕ, zero, suc, _+_, _*_, _^_, _≤_, _<_, min}
 use mathlib.Core.Path.{_≡_, refl, sym, ap, _∙_}
 use mathlib.Core.Logic.{_↔_}
@@ -14,7 +14,7 @@ use Rattle.lemmas.specs.ListLaws.{and-left, and-right, both, all-in}
 use Rattle.lemmas.specs.Slices.{put, put-front, drop-view, run-past, run-within, slice-map}
 use Rattle.lemmas.specs.Maps.{all-both}
 use Rattle.lemmas.specs.Each.{Each}
-use Rattle.model.specs.File.{File, full, seeks, total, numbers, goodFile, maxSize}
+use Rattle.model.specs.File.{File, full, seeks, total, numbers, goodFile, maxSize, keyRoom, maxFiles, maxBytes}
 use Rattle.model.specs.Key.{before}
 use Rattle.model.specs.Range.{lowKey, highKey}
 use Rattle.model.specs.RangeLaws.{smallestOf, largestOf, low-fold, high-fold}
@@ -23,28 +23,19 @@ use Rattle.model.specs.ScoreLaws.{total-most}
 use Rattle.keys.specs.declared.Key.{Key}
 use Rattle.keys.specs.Key.{keyOf, keyRecord, soundKey}
 use Rattle.keys.specs.KeyLaws as key
-use Rattle.records.specs.Record.{fileOf, recordOf, blank, vacant, soundRecord, wellRecord, blankKey, isBlank}
+use Rattle.records.specs.Record.{fileOf, recordOf, blank, vacant, soundRecord, wellRecord, blankKey, isBlank, past, Shaped, AllShaped}
 use Rattle.records.specs.Run.{run, endsOf}
 use Rattle.records.specs.declared.FileRecord.{FileRecord}
 
--- what is read past an array's end
-abbrev pub past : FileRecord
-past = record { number = record { 0 = 0 }; size = 0; smallest = record { bytes = []; len = 0 }; largest = record { bytes = []; len = 0 }; seeks = 0 }
-
 -- ---- one file, one sound record
 
--- a record's keys have their room
-pub record Shaped (r : FileRecord) : Type 0 where
-  pub smallest : length (r .smallest .bytes) ≡ 40
-  pub largest : length (r .largest .bytes) ≡ 40
-
--- the two keys of a good file fit their room
-pub short-keys : (f : File) → goodFile full f ≡ true → (length (f .smallest) ≤ 40) × (length (f .largest) ≤ 40)
+-- both keys of a good file fit their room
+pub short-keys : (f : File) → goodFile full f ≡ true → (length (f .smallest) ≤ keyRoom) × (length (f .largest) ≤ keyRoom)
 unfolding full
 short-keys f g = let s = file-facts full f g in (s .smallest, s .largest)
 
-module _ (f : File) (h : length (f .smallest) ≤ 40) (k : length (f .largest) ≤ 40) where
-  -- the record that is kept of a file stands for it
+module _ (f : File) (h : length (f .smallest) ≤ keyRoom) (k : length (f .largest) ≤ keyRoom) where
+  -- the kept record of a file stands for it
   pub fileOf-recordOf : fileOf (recordOf f) ≡ f
   unfolding fileOf recordOf
   fileOf-recordOf =
@@ -58,33 +49,37 @@ module _ (f : File) (h : length (f .smallest) ≤ 40) (k : length (f .largest) �
       (both (soundKey (keyRecord (f .smallest))) (soundKey (keyRecord (f .largest))) (key.record-sound (f .smallest) h) (key.record-sound (f .largest) k))
       (eq-eqb (seeks (f .size)) (seeks (f .size)) refl)
 
-  -- and its keys have their room
+  -- its keys have their room
   pub recordOf-shaped : Shaped (recordOf f)
   unfolding recordOf
   recordOf-shaped = record { smallest = key.keyRecord-length (f .smallest) h; largest = key.keyRecord-length (f .largest) k }
 
--- the same of a good file
+-- the same for a good file
 module _ (f : File) (g : goodFile full f ≡ true) where
+  -- its kept record stands for it
   pub fileOf-record : fileOf (recordOf f) ≡ f
   fileOf-record = let s = short-keys f g in fileOf-recordOf f (s .0) (s .1)
 
+  -- its kept record is sound
   pub record-sound : soundRecord (recordOf f) ≡ true
   record-sound = let s = short-keys f g in recordOf-sound f (s .0) (s .1)
 
+  -- its kept record has its keys' room
   pub record-shaped : Shaped (recordOf f)
   record-shaped = let s = short-keys f g in recordOf-shaped f (s .0) (s .1)
 
+  -- its kept record is well-formed
   pub record-well : wellRecord (recordOf f) ≡ true
   unfolding wellRecord
   record-well = both (soundRecord (recordOf f)) (goodFile full (fileOf (recordOf f))) record-sound (rw fileOf-record g)
 
--- what soundness says
+-- a sound record, part by part
 pub record Sound (r : FileRecord) : Type 0 where
   pub smallest : soundKey (r .smallest) ≡ true
   pub largest : soundKey (r .largest) ≡ true
   pub seeks : r .seeks ≡ seeks (r .size)
 
--- which the test says
+-- the test holds exactly if each part does
 pub sound-says : (r : FileRecord) → soundRecord r ≡ true ↔ Sound r
 unfolding soundRecord
 sound-says r =
@@ -95,7 +90,7 @@ sound-says r =
       λ s. both (a && b) c (both a b (s .smallest) (s .largest)) (eq-eqb (r .seeks) (seeks (r .size)) (s .seeks)),
     )
 
--- a sound record is the one that is kept of its file
+-- a sound record is the kept record of its file
 pub sound-is : (r : FileRecord) → Shaped r → soundRecord r ≡ true → r ≡ recordOf (fileOf r)
 unfolding fileOf recordOf
 sound-is r s h =
@@ -108,7 +103,7 @@ sound-is r s h =
 pub one-record : (r q : FileRecord) → Shaped r → Shaped q → soundRecord r ≡ true → soundRecord q ≡ true → fileOf r ≡ fileOf q → r ≡ q
 one-record r q s t h k e = sound-is r s h ∙ ap recordOf e ∙ sym (sound-is q t k)
 
--- what well-formedness of a record says
+-- a record is well-formed exactly if it is sound and its file is good
 pub well-says : (r : FileRecord) → wellRecord r ≡ true ↔ ((soundRecord r ≡ true) × (goodFile full (fileOf r) ≡ true))
 unfolding wellRecord
 well-says r = (
@@ -119,19 +114,19 @@ well-says r = (
 -- ---- the blank record
 
 -- a blank key is the one that empty places hold
-pub blank-key-is : (k : Key) → length (k .bytes) ≡ 40 → blankKey k ≡ true → k ≡ keyRecord []
+pub blank-key-is : (k : Key) → length (k .bytes) ≡ keyRoom → blankKey k ≡ true → k ≡ keyRecord []
 unfolding blankKey keyOf
 blank-key-is k q h =
     let n : k .len ≡ 0 = eqb-true (k .len) 0 (and-left (eqb (k .len) 0) (soundKey k) h) in
-    let e : keyOf k ≡ [] = rw n (key.held-in 40 (k .bytes) 0 (omega arith)) in
+    let e : keyOf k ≡ [] = rw n (key.held-in keyRoom (k .bytes) 0 (omega arith)) in
     key.sound-is k q (and-right (eqb (k .len) 0) (soundKey k) h) ∙ ap keyRecord e
 
--- the record of no key is blank
+-- the blank key passes the test
 blank-key-blank : blankKey (keyRecord []) ≡ true
 unfolding blankKey keyRecord
 blank-key-blank = both (eqb (keyRecord [] .len) 0) (soundKey (keyRecord [])) refl (key.record-sound [] (omega arith))
 
--- what the test of the blank record says
+-- the blank record, part by part
 pub record Blank (r : FileRecord) : Type 0 where
   pub number : r .number .0 ≡ 0
   pub size : r .size ≡ 0
@@ -139,7 +134,7 @@ pub record Blank (r : FileRecord) : Type 0 where
   pub smallest : blankKey (r .smallest) ≡ true
   pub largest : blankKey (r .largest) ≡ true
 
--- which the test says
+-- the test holds exactly if each part does
 pub blank-says : (r : FileRecord) → isBlank r ≡ true ↔ Blank r
 unfolding isBlank
 blank-says r =
@@ -171,23 +166,19 @@ blank-is r s h =
     let b = blank-key-is (r .largest) (s .largest) (t .largest) in
     λ i. record { number = record { 0 = t .number i }; size = t .size i; smallest = a i; largest = b i; seeks = t .seeks i }
 
--- and the blank record passes
+-- the blank record passes the test
 pub blank-blank : isBlank blank ≡ true
 unfolding blank
 blank-blank = blank-says blank .1 record { number = refl; size = refl; seeks = refl; smallest = blank-key-blank; largest = blank-key-blank }
 
--- the blank record has its shape
+-- the blank record's keys have their room
 pub blank-shaped : Shaped blank
 unfolding blank
 blank-shaped = record { smallest = key.keyRecord-length [] (omega arith); largest = key.keyRecord-length [] (omega arith) }
 
 -- ---- lists of records
 
--- each record's keys have their room
-abbrev pub AllShaped : List FileRecord → Type 0
-AllShaped rs = Each Shaped rs
-
--- sound records are those that are kept of their files
+-- sound records are the kept records of their files
 pub sound-list : (rs : List FileRecord) → AllShaped rs → all soundRecord rs ≡ true → rs ≡ map recordOf (map fileOf rs)
 unfolding all Each
 sound-list [] s h = refl
@@ -201,7 +192,7 @@ blank-list [] s h = refl
 blank-list (r ∷ rs) s h =
     cc (blank-is r (s .0) (and-left (isBlank r) (all isBlank rs) h), blank-list rs (s .1) (and-right (isBlank r) (all isBlank rs) h))
 
--- and empty places are blank
+-- empty places are blank
 pub vacant-blank : (n : ℕ) → all isBlank (vacant n) ≡ true
 unfolding all vacant
 vacant-blank zero = refl
@@ -216,30 +207,30 @@ well-list (r ∷ rs) h =
     let t = well-list rs (and-right (wellRecord r) (all wellRecord rs) h) in
     (both (soundRecord r) (all soundRecord rs) (w .0) (t .0), both (goodFile full (fileOf r)) (all (goodFile full) (map fileOf rs)) (w .1) (t .1))
 
--- the same as one equation of tests
+-- the same as one equation
 pub well-list-is : (rs : List FileRecord) → all wellRecord rs ≡ all soundRecord rs && all (goodFile full) (map fileOf rs)
 unfolding wellRecord
 well-list-is rs = all-both soundRecord (goodFile full) fileOf rs
 
--- each record's number is one of 64 bits
+-- each record's number fits 64 bits
 abbrev pub AllWords : List FileRecord → Type 0
 AllWords rs = Each (λ (r : FileRecord). r .number .0 < 2 ^ 64) rs
 
--- the records that are kept of good files stand for them, are well-formed and have their room
+-- the kept records of good files stand for them
 pub files-of-records : (fs : List File) → all (goodFile full) fs ≡ true → map fileOf (map recordOf fs) ≡ fs
 unfolding all
 files-of-records [] h = refl
 files-of-records (f ∷ fs) h =
     rw (fileOf-record f (and-left (goodFile full f) (all (goodFile full) fs) h), files-of-records fs (and-right (goodFile full f) (all (goodFile full) fs) h))
 
--- well-formed files' records are well-formed
+-- they are well-formed
 pub records-well : (fs : List File) → all (goodFile full) fs ≡ true → all wellRecord (map recordOf fs) ≡ true
 unfolding all
 records-well [] h = refl
 records-well (f ∷ fs) h =
     both (wellRecord (recordOf f)) (all wellRecord (map recordOf fs)) (record-well f (and-left (goodFile full f) (all (goodFile full) fs) h)) (records-well fs (and-right (goodFile full f) (all (goodFile full) fs) h))
 
--- and have their shape
+-- their keys have their room
 pub records-shaped : (fs : List File) → all (goodFile full) fs ≡ true → AllShaped (map recordOf fs)
 unfolding all Each
 records-shaped [] h = tt
@@ -253,79 +244,84 @@ module _ (i e : ℕ) (files : List FileRecord) where
   unfolding run
   run-turn h k = drop-view fileOf i e files past h k
 
-  -- a run whose start is past its end
+  -- a run whose start is past its end is empty
   pub run-ended : e ≤ i → run i e files ≡ []
   unfolding run
   run-ended h = ap (map fileOf) (run-past i e files h)
 
-  -- a run up to a place beyond the room
+  -- a run that ends beyond the room ends with the room
   pub run-room : (n : ℕ) → length files ≡ n → run i (min e n) files ≡ run i e files
   unfolding run
   run-room n q = ap (map fileOf) (run-within i e n files q)
 
-  -- the sizes of a run: the first and those of the rest; none once it has ended
+  -- the bytes of a run: the first file's and those of the rest
   pub total-turn : i < e → e ≤ length files → total (run i e files) ≡ getD files i past .size + total (run (i + 1) e files)
   unfolding total sum fileOf
   total-turn h k = rw (run-turn h k)
 
+  -- no bytes once the run has ended
   pub total-ended : e ≤ i → total (run i e files) ≡ 0
   unfolding total sum
   total-ended h = rw (run-ended h)
 
-  -- the numbers of a run: the first and those of the rest; none once it has ended
+  -- the numbers of a run: the first file's and those of the rest
   pub numbers-turn : i < e → e ≤ length files → numbers (run i e files) ≡ getD files i past .number .0 ∷ numbers (run (i + 1) e files)
   unfolding numbers fileOf
   numbers-turn h k = rw (run-turn h k)
 
+  -- no numbers once the run has ended
   pub numbers-ended : e ≤ i → numbers (run i e files) ≡ []
   unfolding numbers
   numbers-ended h = rw (run-ended h)
 
-  -- the smallest key of a run, by one file more; once it has ended
+  -- the smallest key of a run, after one file more
   pub low-turn : (k : List ℕ) → i < e → e ≤ length files
       → smallestOf k (run i e files) ≡ smallestOf (cond (before (keyOf (getD files i past .smallest)) k) (keyOf (getD files i past .smallest)) k) (run (i + 1) e files)
   unfolding smallestOf fileOf
   low-turn k h g = rw (run-turn h g)
 
+  -- once the run has ended it is the one so far
   pub low-ended : (k : List ℕ) → e ≤ i → smallestOf k (run i e files) ≡ k
   unfolding smallestOf
   low-ended k h = rw (run-ended h)
 
-  -- the largest key of a run alike
+  -- the largest key of a run, after one file more
   pub high-turn : (k : List ℕ) → i < e → e ≤ length files
       → largestOf k (run i e files) ≡ largestOf (cond (before k (keyOf (getD files i past .largest))) (keyOf (getD files i past .largest)) k) (run (i + 1) e files)
   unfolding largestOf fileOf
   high-turn k h g = rw (run-turn h g)
 
+  -- once the run has ended it is the one so far
   pub high-ended : (k : List ℕ) → e ≤ i → largestOf k (run i e files) ≡ k
   unfolding largestOf
   high-ended k h = rw (run-ended h)
 
-  -- a run's smallest and largest key are found from its first file's
+  -- the smallest key of a run, starting with its first file's
   pub low-first : i < e → e ≤ length files → lowKey (run i e files) ≡ smallestOf (keyOf (getD files i past .smallest)) (run (i + 1) e files)
   unfolding fileOf
   low-first h g = rw (run-turn h g) (low-fold (fileOf (getD files i past)) (run (i + 1) e files))
 
+  -- the largest key of a run, starting with its first file's
   pub high-first : i < e → e ≤ length files → highKey (run i e files) ≡ largestOf (keyOf (getD files i past .largest)) (run (i + 1) e files)
   unfolding fileOf
   high-first h g = rw (run-turn h g) (high-fold (fileOf (getD files i past)) (run (i + 1) e files))
 
-  -- a run that has ended has the ends of no files
+  -- a run that has ended has blank keys as its ends
   pub ends-none : e ≤ i → endsOf (run i e files) ≡ record { low = keyRecord []; high = keyRecord [] }
   unfolding endsOf lowKey highKey find
   ends-none h = rw (run-ended h)
 
-  -- the bytes of a run of good files
-  pub total-bound : length files ≡ 256 → e ≤ 256 → all (goodFile full) (run i e files) ≡ true → total (run i e files) ≤ 256 * 2 ^ 40
-  unfolding run maxSize
+  -- the most bytes of a run of good files
+  pub total-bound : length files ≡ maxFiles → e ≤ maxFiles → all (goodFile full) (run i e files) ≡ true → total (run i e files) ≤ maxBytes
+  unfolding run
   total-bound q h g =
-      let n : length (run i e files) ≤ 256 = omega (arith, length-map (slice i e files) fileOf, length-slice i e files (omega arith)) in
+      let n : length (run i e files) ≤ maxFiles = omega (arith, length-map (slice i e files) fileOf, length-slice i e files (omega arith)) in
       let m = total-most (run i e files) (λ f t. file-facts full f (all-in (goodFile full) (run i e files) .0 g f t) .size) in
       omega arith
 
 -- ---- columns of numbers
 
--- the numbers of a run, from a column of numbers
+-- a run of the column of numbers is the numbers of that run
 pub column-run : (n from to : ℕ) (files : List FileRecord) (d column : List ℕ) → n ≤ length files → from ≤ to → to ≤ n → column ≡ put d 0 (numbers (run 0 n files))
     → slice from to column ≡ numbers (run from to files)
 unfolding run numbers

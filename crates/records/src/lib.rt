@@ -1,22 +1,35 @@
-// File records by value, and what is asked of the files in a run of places. Every function answers for every record and every place.
+// File records by value, and sums and ranges over a run of places. Every function answers for every record and every place.
 ghost use mathlib.Core.Path.{_≡_};
 ghost use Prim.Native.Nat.{min};
 ghost use lib.ListN.{replicate};
 ghost use Rattle.lemmas.specs.Lists.{all};
 ghost use Rattle.lemmas.specs.Slices.{put};
-ghost use Rattle.model.specs.File.{File, seeks, total, numbers};
+ghost use Rattle.model.specs.File.{File, seeks, total, numbers, maxFiles, maxWord};
 ghost use Rattle.keys.specs.Key.{keyOf};
 ghost use Rattle.records.specs.Record.{recordOf, blank, vacant, wellRecord, blankKey, isBlank, limitOf};
 ghost use Rattle.records.specs.Run.{run, endsOf};
 use keys::FileNumber;
 use keys::Key;
+use keys::Word;
 
 // The levels of a version.
 pub struct Level {}
 
 impl Level {
-    // How many levels there are.
+    // The number of levels.
     pub const COUNT: usize = 7;
+    // The last level.
+    pub const LAST: usize = Level::COUNT - 1;
+}
+
+// The files of all levels.
+pub struct Version {}
+
+impl Version {
+    // The most files of a version.
+    pub const ROOM: usize = 256;
+    // Stands for every number of files above the room.
+    pub const BEYOND: usize = Version::ROOM + 1;
 }
 
 // A table file: its number, its size, its smallest and largest internal key, and its allowed seeks.
@@ -29,11 +42,11 @@ pub struct FileRecord {
 }
 
 impl FileRecord {
-    // A file has one allowed seek for so many bytes.
+    // A file has one allowed seek for this many bytes.
     pub const SEEK_DIVISOR: u64 = 16384;
     // The fewest allowed seeks.
     pub const LEAST_SEEKS: u64 = 100;
-    // The largest size.
+    // The largest size of a file.
     pub const LARGEST_SIZE: u64 = 1099511627776;
 }
 
@@ -46,22 +59,22 @@ pub struct Ends {
 // The byte limits of levels 1 to 5.
 const BYTE_LIMITS: [u64; 5] = [10485760, 104857600, 1048576000, 10485760000, 104857600000];
 
-// What every empty place holds.
+// The blank record, which every empty place holds.
 pub const BLANK: FileRecord = FileRecord {
     number: FileNumber(0),
     size: 0,
     smallest: Key {
-        bytes: [0u8; 40],
+        bytes: [0u8; Key::ROOM],
         len: 0,
     },
     largest: Key {
-        bytes: [0u8; 40],
+        bytes: [0u8; Key::ROOM],
         len: 0,
     },
     seeks: 0,
 };
 
-// The byte limit of a level from 1 to 5; 0 for any other.
+// The byte limit of levels 1 to 5, or 0 for any other level.
 pub fn byte_limit(level: usize) -> u64
     ensures { λ r. ⌜ r ≡ limitOf level ⌝ }
 {
@@ -75,7 +88,7 @@ pub fn byte_limit(level: usize) -> u64
     BYTE_LIMITS[i]
 }
 
-// The allowed seeks of a file: its size by the divisor, rounded down, at least the fewest.
+// The allowed seeks of a file: its size over the divisor, rounded down, and at least 100.
 pub fn allowed_seeks(size: u64) -> u64
     ensures { λ r. ⌜ r ≡ seeks size ⌝ }
 {
@@ -86,7 +99,7 @@ pub fn allowed_seeks(size: u64) -> u64
     n
 }
 
-// The record that is kept of a file: bytes past its keys' ends aren't read.
+// The record that is kept of a file. Bytes past its keys' ends are not read.
 pub fn record(number: FileNumber, size: u64, smallest: Key, largest: Key) -> FileRecord
     ensures { λ r. ⌜ r ≡ recordOf (record { number = number .0; size = size; smallest = keyOf smallest; largest = keyOf largest }) ⌝ }
 {
@@ -101,18 +114,18 @@ pub fn record(number: FileNumber, size: u64, smallest: Key, largest: Key) -> Fil
     }
 }
 
-// The blank record.
+// The blank record. Internal.
 pub fn blank_record() -> FileRecord
     ensures { λ r. ⌜ r ≡ blank ⌝ }
 {
     BLANK
 }
 
-// A version's places, all empty.
-pub fn blanks() -> [FileRecord; 256]
-    ensures { λ r. ⌜ r ≡ vacant 256 ⌝ }
+// The places of a version, all empty. Internal.
+pub fn blanks() -> [FileRecord; Version::ROOM]
+    ensures { λ r. ⌜ r ≡ vacant maxFiles ⌝ }
 {
-    [BLANK; 256]
+    [BLANK; Version::ROOM]
 }
 
 // Whether a record is sound and its file well-formed: keys, smallest not after largest, size.
@@ -138,7 +151,7 @@ pub fn is_well_formed(r: FileRecord) -> bool
     r.seeks == allowed_seeks(r.size)
 }
 
-// Whether the record of a key is that of no bytes.
+// Whether a key's record is the blank one: no bytes, and zeros in all its room.
 fn is_blank_key(k: Key) -> bool
     ensures { λ b. ⌜ b ≡ blankKey k ⌝ }
 {
@@ -149,7 +162,7 @@ fn is_blank_key(k: Key) -> bool
     }
 }
 
-// Whether a record is the blank one.
+// Whether a record is the blank one. Internal.
 pub fn is_blank(r: FileRecord) -> bool
     ensures { λ b. ⌜ b ≡ isBlank r ⌝ }
 {
@@ -171,27 +184,27 @@ pub fn is_blank(r: FileRecord) -> bool
     is_blank_key(high)
 }
 
-// A place, or the end of the room. For callers of this repository that go through a run.
+// A place, or the end of the room if it is beyond. Internal.
 pub fn within(to: usize) -> usize
-    ensures { λ r. ⌜ r ≡ min to 256 ⌝ }
+    ensures { λ r. ⌜ r ≡ min to maxFiles ⌝ }
 {
-    if 256 < to {
-        return 256;
+    if Version::ROOM < to {
+        return Version::ROOM;
     }
     to
 }
 
-// The sum of the sizes in a run, or the largest u64 where that is less.
-pub fn total_size(files: [FileRecord; 256], from: usize, to: usize) -> u64
-    ensures { λ r. ⌜ r ≡ min (total (run from to files)) 18446744073709551615 ⌝ }
+// The sum of the sizes in a run, or the largest u64 if the sum is above it. Internal.
+pub fn total_size(files: [FileRecord; Version::ROOM], from: usize, to: usize) -> u64
+    ensures { λ r. ⌜ r ≡ min (total (run from to files)) maxWord ⌝ }
 {
     let end = within(to);
     let mut s: u64 = 0;
     let mut i = from;
     while i < end {
         let x = files[i].size;
-        if 18446744073709551615 - s < x {
-            return 18446744073709551615;
+        if Word::LARGEST - s < x {
+            return Word::LARGEST;
         }
         s += x;
         i += 1;
@@ -199,12 +212,16 @@ pub fn total_size(files: [FileRecord; 256], from: usize, to: usize) -> u64
     s
 }
 
-// The numbers in a run, zeros past them.
-pub fn numbers_of(files: [FileRecord; 256], from: usize, to: usize) -> [u64; 256]
-    ensures { λ r. ⌜ r ≡ put (replicate 256 0) 0 (numbers (run from to files)) ⌝ }
+// The file numbers in a run, zeros past them. Internal.
+pub fn numbers_of(
+    files: [FileRecord; Version::ROOM],
+    from: usize,
+    to: usize,
+) -> [u64; Version::ROOM]
+    ensures { λ r. ⌜ r ≡ put (replicate maxFiles 0) 0 (numbers (run from to files)) ⌝ }
 {
     let end = within(to);
-    let mut out = [0u64; 256];
+    let mut out = [0u64; Version::ROOM];
     let mut n: usize = 0;
     let mut i = from;
     while i < end {
@@ -217,8 +234,8 @@ pub fn numbers_of(files: [FileRecord; 256], from: usize, to: usize) -> [u64; 256
     out
 }
 
-// The smallest and the largest key in a run; of keys equal in order those of the first file.
-pub fn get_range(files: [FileRecord; 256], from: usize, to: usize) -> Ends
+// The smallest and the largest key in a run. Among keys equal in order, that of the first file counts. Internal.
+pub fn get_range(files: [FileRecord; Version::ROOM], from: usize, to: usize) -> Ends
     ensures { λ r. ⌜ r ≡ endsOf (run from to files) ⌝ }
 {
     let end = within(to);

@@ -1,76 +1,77 @@
 // shell: reads a script on standard input and prints one answer line for each command.
-mod asking;
-mod changes;
-mod commands;
-mod kinds;
-mod machine;
-mod parts;
-mod picking;
-mod replies;
-mod texts;
-
-use crate::kinds::Kind;
-use crate::machine::Machine;
-use crate::parts::Parts;
-use crate::replies::Reply;
+ghost use Prim.Native.Nat.{_≤_};
+ghost use lib.ListN.{length};
+use script_table::Fault;
+use shell_machine::Machine;
+use store::Store;
 
 // The maximum file size before a script names one.
 const MAXIMUM: u64 = 2097152;
 
-// Changes the store.
-fn change(m: Machine, line: &[u8], w: Parts) -> Machine {
-    let s = changes::answer(m.store, line, w);
-    let mut after = m;
-    after.store = s;
-    after
-}
-
-// The maximum file size that picks take from here on.
-fn set_maximum(m: Machine, line: &[u8], w: Parts) -> Machine {
-    let n = parts::number(line, w, 1);
-    if !n.fine {
-        replies::refuse(texts::NUMBER);
-        return m;
-    }
-    let mut after = m;
-    after.maximum = n.value;
-    replies::tell(Reply::Text(texts::OK));
-    after
-}
-
-// A fresh store, the maximum file size as it was.
-fn renew(maximum: u64) -> Machine {
-    replies::tell(Reply::Text(texts::OK));
-    machine::fresh(maximum)
-}
-
-// Answers one command.
-fn answer(m: Machine, line: &[u8], w: Parts) -> Machine {
-    let k = kinds::kind_of(w.name, w.count);
-    match k {
-        Kind::Changes => change(m, line, w),
-        Kind::Picks => picking::answer(m, line, w),
-        Kind::Follows => picking::follow(m, line, w),
-        Kind::New => renew(m.maximum),
-        Kind::Maximum => set_maximum(m, line, w),
-        Kind::Plain => {
-            commands::answer_plain(line, w);
-            m
-        }
-        Kind::Short => {
-            commands::answer_short(m.store, line, w);
-            m
-        }
-        Kind::Asks => {
-            asking::answer(m.store, line, w);
-            m
-        }
-        Kind::Unknown => {
-            replies::refuse(texts::COMMAND);
-            m
-        }
+// Prints the first bytes as a line.
+fn print(out: &mut [u8], at: usize) {
+    let end = script_lines::put_byte(out, at, b'\n');
+    if end <= out.len() {
+        io::write_all(1, &out[0..end]);
     }
 }
+
+// Prints what is wrong with a line.
+fn refuse(out: &mut [u8], line: &[u8], f: Fault) {
+    let at = script_table::put_fault(out, line, f);
+    print(out, at)
+}
+
+// ---- commands that need no store
+
+// The text after the first word.
+fn put_echo(out: &mut [u8], line: &[u8]) -> usize {
+    let n = line.len();
+    if n < 6 {
+        return 0;
+    }
+    script_lines::put(out, 0, &line[5..])
+}
+
+// Answers a command that needs no store.
+fn answer_plain(out: &mut [u8], line: &[u8], which: u8) {
+    if which == b'e' {
+        let at = put_echo(out, line);
+        return print(out, at);
+    }
+    if which == b'h' {
+        let at = script_table::put_help(out, line);
+        return print(out, at);
+    }
+    let at = shell_key::put_answer(out, line, which);
+    print(out, at)
+}
+
+// ---- commands on the machine
+
+// Answers a question about the store, its levels or its keys.
+fn ask(out: &mut [u8], s: Store, line: &[u8], group: u8, which: u8) {
+    if group == b'a' {
+        let at = shell_ask::put_answer(out, s, line, which);
+        return print(out, at);
+    }
+    let at = shell_find::put_answer(out, s, line, which);
+    print(out, at)
+}
+
+// A fresh store, or the maximum file size that picks take from here on.
+fn settle(out: &mut [u8], m: Machine, line: &[u8], which: u8) -> Machine {
+    let at = script_lines::put(out, 0, b"ok");
+    print(out, at);
+    if which == b'n' {
+        let p = m.picks;
+        return shell_machine::fresh(p.maximum);
+    }
+    let n = script_parts::number(line, script_parts::words_of(line), 1);
+    shell_machine::set_maximum(m, n.value)
+}
+
+// ---- lines
 
 // Whether a line gives no answer: it is blank, or begins with #.
 fn is_silent(line: &[u8]) -> bool {
@@ -80,24 +81,93 @@ fn is_silent(line: &[u8]) -> bool {
     line[0] == b'#'
 }
 
-// Answers a line that may be silent.
-fn take(m: Machine, line: &[u8]) -> Machine {
+// A command that is still to be answered: its group and its letter in the table of commands; group 0: none.
+struct Command {
+    group: u8,
+    which: u8,
+}
+
+// No command.
+fn no_command() -> Command {
+    Command { group: 0, which: 0 }
+}
+
+// Reads a line, and answers it where that needs no store.
+fn begin(out: &mut [u8], line: &[u8]) -> Command {
     if is_silent(line) {
-        return m;
+        return no_command();
     }
-    answer(m, line, parts::words_of(line))
+    let r = script_table::read(line);
+    let f = r.fault;
+    if f.kind != 0 {
+        refuse(out, line, f);
+        return no_command();
+    }
+    if r.group == b'p' {
+        answer_plain(out, line, r.which);
+        return no_command();
+    }
+    Command {
+        group: r.group,
+        which: r.which,
+    }
 }
 
-// One line of so many bytes; those past the room stand for a line that is too long.
-fn turn(m: Machine, line: &[u8], n: usize) -> Machine {
-    if line.len() < n {
-        replies::refuse(texts::LENGTH);
-        return m;
+// The machine after a command that changes it.
+fn turned(out: &mut [u8], m: Machine, line: &[u8], group: u8, which: u8) -> Machine {
+    if group == b'c' {
+        return shell_machine::change(out, m, line, which);
     }
-    take(m, &line[0..n])
+    if group == b'k' {
+        return shell_machine::pick_next(out, m, line, which);
+    }
+    shell_machine::follow(out, m, line, which)
 }
 
-// One byte more of a line; past the room only the count grows.
+// Answers a line.
+fn answer(out: &mut [u8], m: Machine, line: &[u8]) -> Machine {
+    let c = begin(out, line);
+    if c.group == 0 {
+        return m;
+    }
+    if (c.group == b'a') | (c.group == b'q') {
+        ask(out, m.store, line, c.group, c.which);
+        return m;
+    }
+    if c.group == b'm' {
+        return settle(out, m, line, c.which);
+    }
+    let after = turned(out, m, line, c.group, c.which);
+    print(out, after.at);
+    after
+}
+
+// How many bytes of a line count: not the carriage return at its end, and none of a line that is too long, which is said.
+fn front_of(out: &mut [u8], line: &[u8], count: usize) -> usize
+    ensures { λ r. ⌜ r ≤ length (now (line .entry)) ⌝ }
+{
+    if count == 0 {
+        return 0;
+    }
+    let last = count - 1;
+    if line.len() <= last {
+        let at = script_table::put_too_long(out);
+        print(out, at);
+        return 0;
+    }
+    if line[last] == b'\r' {
+        return last;
+    }
+    count
+}
+
+// Answers the line of so many bytes.
+fn take(out: &mut [u8], m: Machine, line: &[u8], count: usize) -> Machine {
+    let n = front_of(out, line, count);
+    answer(out, m, &line[0..n])
+}
+
+// One byte more of a line; past the room only the count grows, to one past it.
 fn push(line: &mut [u8], n: usize, b: u8) -> usize {
     if n < line.len() {
         line[n] = b;
@@ -111,7 +181,8 @@ fn push(line: &mut [u8], n: usize, b: u8) -> usize {
 
 // Reads standard input block after block and answers line after line.
 fn main() {
-    let mut m = machine::fresh(MAXIMUM);
+    let mut m = shell_machine::fresh(MAXIMUM);
+    let mut out = io::large_buffer();
     let mut line = io::large_buffer();
     let mut n: usize = 0;
     let mut block = io::large_buffer();
@@ -121,7 +192,7 @@ fn main() {
         let count = io::count(got, &block);
         if count == 0 {
             if 0 < n {
-                m = turn(m, &line, n);
+                m = take(&mut out, m, &line, n);
             }
             return;
         }
@@ -129,7 +200,7 @@ fn main() {
         while i < count {
             let b = block[i];
             if b == b'\n' {
-                m = turn(m, &line, n);
+                m = take(&mut out, m, &line, n);
                 n = 0;
             } else {
                 n = push(&mut line, n, b);

@@ -1,3 +1,3 @@
--- What the proofs of several functions use.
+-- Modules that several proofs use.
 mod Marks
 mod Places

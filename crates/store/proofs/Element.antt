@@ -1,5 +1,5 @@
--- A step for a walk that reads an element of an array which lies within a cell: `nth-of`, beside `types.Part`'s `whole` and `sub`. The element is taken out of the array's cell, and put back with any value.
--- Assumes nothing.
+-- A step for walks that read an element of an array within a cell: `nth-of`, beside `types.Part`'s `whole` and `sub`. It takes the element out of the array's cell
+-- and puts it back with any value. Assumes nothing.
 use mathlib.Core.Path.{_≡_, refl, sym, _∙_, ap, subst}
 use Prim.Native.Nat.{ℕ, zero, suc, _+_, _<_}
 use native.Mathlib.Nat.{not-suc-le-zero, le-of-suc-le-suc}

@@ -1,4 +1,5 @@
--- How a walk lends a store that lies in memory as `&Store` for one call, and takes it back: `lent-shared` before the call, `asks-shared` for what the call asks, `shared-back` after it. Assumes nothing.
+-- How a walk lends a store in memory as `&Store` for one call and takes it back: `lent-shared` before the call, `asks-shared` for what the call requires,
+-- `shared-back` after it. Assumes nothing.
 use mathlib.Core.Path.{_≡_, sym, subst}
 use Prim.Native.Nat.{ℕ}
 use mathlib.Core.List.{List, [], _∷_}

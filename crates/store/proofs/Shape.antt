@@ -1,16 +1,16 @@
--- What owning a store tells: the lengths of its arrays. Assumes nothing.
+-- What owning a store says: the lengths of its arrays. Assumes nothing.
 use mathlib.Core.List.{List}
 use mir.Val.{Val}
 use borrow.Author.Needs.{needs}
 use denote.Laws.{Is}
 use Rattle.lemmas.specs.Owned.{each-field-owned}
 use Rattle.lemmas.specs.Slices.{length-of-map}
-use Rattle.records.specs.RecordLaws.{Shaped}
+use Rattle.records.specs.Record.{Shaped}
 use Rattle.records.proofs.FileRecord as record-type
 use Rattle.records.proofs.Shape.{shaped}
 use Rattle.store.specs.declared.Pointer.{Pointer}
 use Rattle.store.specs.declared.Store.{Store}
-use Rattle.store.specs.StoreLaws.{Shape, PointerShaped}
+use Rattle.store.specs.Store.{StoreShape, PointerShaped}
 use Rattle.store.proofs.Pointer as pointer-type
 use Rattle.store.proofs.Store as store-type
 
@@ -18,8 +18,8 @@ use Rattle.store.proofs.Store as store-type
 pub pointer-shaped : (p : Pointer) (vs : List Val) → Is pointer-type.the-row p vs → PointerShaped p
 pointer-shaped p vs is = search needs
 
--- of a store. For a parameter `s: Store`, the first, and the function's start c: `shape (c .args .s) _ (c .good .0) : Shape (c .args .s)`
-pub shape : (s : Store) (vs : List Val) → Is store-type.the-row s vs → Shape s
+-- of a store. For a parameter `s: Store`, the first, and the function's start c: `shape (c .args .s) _ (c .good .0) : StoreShape (c .args .s)`
+pub shape : (s : Store) (vs : List Val) → Is store-type.the-row s vs → StoreShape s
 shape s vs is =
     let files = is .1 .1 .0 in
     let pointers = is .1 .1 .1 .1 .0 in

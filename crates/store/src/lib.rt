@@ -1,14 +1,14 @@
-// The store by value: files level by level, pointers and counters; whether it is well-formed; the store as it was, with a refusal.
+// The store by value: files level by level, pointers and counters. Checks whether a store is well-formed, and returns it unchanged with a refusal.
 ghost use mathlib.Core.Path.{_≡_};
 ghost use mathlib.Core.Bool.{_&&_};
 ghost use Prim.Native.Nat.{_≤_, _<_};
 ghost use lib.ListN.{getD};
 ghost use Rattle.lemmas.specs.Lists.{all};
-ghost use Rattle.model.specs.File.{full, fresh, goodCounters};
+ghost use Rattle.model.specs.File.{full, fresh, goodCounters, maxFiles};
 ghost use Rattle.counters.specs.Counters.{countersOf};
 ghost use Rattle.levels.specs.Levels.{tellsWell};
-ghost use Rattle.records.specs.RecordLaws.{past};
-ghost use Rattle.store.specs.Store.{storeOf, wellPointer, wellStore, lookOf, refusedBy};
+ghost use Rattle.records.specs.Record.{past};
+ghost use Rattle.store.specs.Store.{storeOf, wellPointer, wellStore, lookOf, numberedOf, refusedBy};
 use answers::Outcome;
 use counters::Counters;
 use keys::FileNumber;
@@ -17,28 +17,44 @@ use keys::SequenceNumber;
 use levels::Surveyed;
 use records::FileRecord;
 use records::Level;
+use records::Version;
 
-// Where a level's compaction goes on: after this key, or at the first file where none is set.
+// The key after which a level's next size pick goes on. If it is not set, the pick starts at the first file.
 pub struct Pointer {
     pub set: bool,
     pub key: Key,
 }
 
-// A store: the files level after level with blank records past them, how many each level has, a pointer for each level, the counters.
+// A store.
 pub struct Store {
-    pub files: [FileRecord; 256],
-    pub counts: [usize; 7],
-    pub pointers: [Pointer; 7],
+    // The files, level after level, with blank records past them.
+    pub files: [FileRecord; Version::ROOM],
+    // The number of files of each level.
+    pub counts: [usize; Level::COUNT],
+    // One pointer for each level.
+    pub pointers: [Pointer; Level::COUNT],
     pub counters: Counters,
 }
 
-// What one look at a store tells: the bytes of each level, zeros where its levels are not arranged as document 01 has them, and whether it is well-formed.
+// The result of one look at a store.
 pub struct Looked {
-    pub bytes: [u64; 7],
+    // The bytes of each level, or zeros if the levels are not arranged as document 01 asks.
+    pub bytes: [u64; Level::COUNT],
+    // Whether the store is well-formed.
     pub well: bool,
 }
 
-// The answer of a call that changes a store: on a refusal the store as it was given. The store stands first, so that it is copied as one piece.
+// What one look at a store tells of its file numbers.
+pub struct Numbered {
+    // The file numbers, zeros past them; all zeros if the levels are not arranged.
+    pub numbers: [u64; Version::ROOM],
+    // The number of files.
+    pub total: usize,
+    // Whether the store is well-formed.
+    pub well: bool,
+}
+
+// The answer of a call that changes a store. After a refusal the store is the one given. The store is the first field, so that it is copied as one piece.
 pub struct Stored {
     pub store: Store,
     pub outcome: Outcome,
@@ -52,11 +68,11 @@ pub fn fresh_store() -> Store
     let files = records::blanks();
     Store {
         files: files,
-        counts: [0usize; 7],
+        counts: [0usize; Level::COUNT],
         pointers: [Pointer {
             set: false,
             key: key,
-        }; 7],
+        }; Level::COUNT],
         counters: Counters {
             next: FileNumber(2),
             manifest: FileNumber(0),
@@ -67,7 +83,7 @@ pub fn fresh_store() -> Store
     }
 }
 
-// Whether a pointer's record is sound and its key, where it is set, is one.
+// Whether a pointer is well-formed: its record is sound, and its key is good if it is set, blank if not.
 fn is_well_formed_pointer(p: Pointer) -> bool
     ensures { λ r. ⌜ r ≡ wellPointer p ⌝ }
 {
@@ -79,7 +95,7 @@ fn is_well_formed_pointer(p: Pointer) -> bool
 }
 
 // Whether every pointer is well-formed.
-fn are_well_formed_pointers(pointers: [Pointer; 7]) -> bool
+fn are_well_formed_pointers(pointers: [Pointer; Level::COUNT]) -> bool
     ensures { λ r. ⌜ r ≡ all wellPointer pointers ⌝ }
 {
     let mut i: usize = 0;
@@ -92,9 +108,9 @@ fn are_well_formed_pointers(pointers: [Pointer; 7]) -> bool
     true
 }
 
-// Whether a store of these counters, these pointers and levels of which a survey tells this is well-formed. For callers of this repository, whose survey is one of levels.
-fn passes(five: Counters, pointers: [Pointer; 7], v: Surveyed) -> bool
-    requires { ⌜ v .total ≤ 256 ⌝ }
+// Whether a store is well-formed, by its counters, its pointers and the survey of its levels. Requires: the survey has no more files than the room.
+fn passes(five: Counters, pointers: [Pointer; Level::COUNT], v: Surveyed) -> bool
+    requires { ⌜ v .total ≤ maxFiles ⌝ }
     ensures { λ r. ⌜ r ≡ goodCounters (countersOf five) && all wellPointer pointers && tellsWell v ⌝ }
 {
     if !counters::are_bounded(five) {
@@ -118,7 +134,7 @@ pub fn is_well_formed(s: Store) -> bool
     passes(five, pointers, v)
 }
 
-// One look at a store: whether it is well-formed, and the bytes of each level.
+// One look at a store: whether it is well-formed, and the bytes of each level. Internal.
 pub fn look(s: Store) -> Looked
     ensures { λ r. ⌜ r ≡ lookOf s ⌝ }
 {
@@ -134,15 +150,32 @@ pub fn look(s: Store) -> Looked
     }
 }
 
-// The record at a place of a lent store. For callers of this repository, whose place is within the room.
+// One look at a store: whether it is well-formed, and its file numbers. Internal.
+pub fn look_numbers(s: Store) -> Numbered
+    ensures { λ r. ⌜ r ≡ numberedOf s ⌝ }
+{
+    let files = s.files;
+    let counts = s.counts;
+    let v = levels::survey(files, counts);
+    let five = s.counters;
+    let pointers = s.pointers;
+    let numbers = v.numbers;
+    Numbered {
+        numbers: numbers,
+        total: v.total,
+        well: passes(five, pointers, v),
+    }
+}
+
+// The record at a place of a lent store. Internal. Requires: the place is within the room.
 pub fn file_at(s: &Store, i: usize) -> FileRecord
-    requires { ⌜ i < 256 ⌝ }
+    requires { ⌜ i < maxFiles ⌝ }
     ensures { λ r. ⌜ r ≡ getD (now (s .entry) .files) i past ⌝ }
 {
     s.files[i]
 }
 
-// The store as it was, with the number of the refusal.
+// The store unchanged, with the number of the refusal. Internal.
 pub fn refuse(s: Store, n: u8) -> Stored
     ensures { λ r. ⌜ r ≡ refusedBy s n ⌝ }
 {

@@ -2,8 +2,8 @@
 use Prim.Native.Nat.{_+_, _*_, _≤_}
 use native.Mathlib.Omega.{arith}
 use borrow.Author.Needs.{needs}
-use Rattle.lists.specs.ListLaws.{well-room}
-use Rattle.finding.specs.FindingLaws.{well-asking}
+use Rattle.level_list.specs.ListLaws.{well-room}
+use Rattle.bench_loops.specs.RoundsLaws.{well-asking}
 use Rattle.bench.proofs.search_round.Statement.{statement}
 use Rattle.bench.proofs.search_round.Tie as tie
 

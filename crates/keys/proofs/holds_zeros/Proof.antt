@@ -1,4 +1,4 @@
--- `keys::holds_zeros` meets its contract. The loop's invariant: all bytes are zeros if no other was met and those from i on are. Assumes nothing.
+-- `keys::holds_zeros` meets its contract. The loop's invariant: all bytes are 0 if those before i were and those from i on are. Assumes nothing.
 use Prim.Native.Nat.{_-_, _+_, _≤_}
 use mathlib.Core.Path.{_≡_, refl, sym, ap, _∙_}
 use mathlib.Core.Logic.{_⊎_, ⊎-elim}
@@ -14,14 +14,15 @@ use Rattle.lemmas.specs.ListLaws.{and-true}
 use Rattle.lemmas.specs.Slices.{rest-cons}
 use Rattle.lemmas.specs.Loops.{all-here, all-later}
 use Rattle.octets.specs.Octets.{isZero}
+use Rattle.model.specs.File.{keyRoom}
 use Rattle.keys.proofs.holds_zeros.Statement.{statement}
 use Rattle.keys.proofs.holds_zeros.Tie as tie
 
 abbrev Inv-loop : tie.InvT-loop
-Inv-loop k others₀ i₀ others i = (others ≤ i) × (i ≤ 40) × (eqb others 0 && all isZero (drop i (k .bytes)) ≡ all isZero (k .bytes))
+Inv-loop k others₀ i₀ others i = (others ≤ i) × (i ≤ keyRoom) × (eqb others 0 && all isZero (drop i (k .bytes)) ≡ all isZero (k .bytes))
 
 abbrev μ-loop : tie.MeasureT-loop
-μ-loop k others₀ i₀ others i = 40 - i
+μ-loop k others₀ i₀ others i = keyRoom - i
 
 loop-holds : tie.Need-loop-holds Inv-loop μ-loop
 loop-holds c = (omega arith, omega arith, refl)
@@ -45,7 +46,7 @@ loop-again c =
     let x = l .before .args .t1 .bytes in
     let i = l .loop .i in
     let others = l .loop .others in
-    let long : length x ≡ 40 = search needs in
+    let long : length x ≡ keyRoom = search needs in
     let split : drop i x ≡ getD x i 0 ∷ drop (i + 1) x = rest-cons x i 0 (omega arith) in
     ⊎-elim
     (λ w.
@@ -62,7 +63,7 @@ unfolding all
 returns c =
     let l = c .before in
     let x = l .before .args .t1 .bytes in
-    let long : length x ≡ 40 = search needs in
+    let long : length x ≡ keyRoom = search needs in
     let ended : length x ≤ l .loop .i = omega arith in
     let none : all isZero (drop (l .loop .i) x) ≡ true = rw (drop-of-length-le x ended) in
     sym (and-true (eqb (l .loop .others) 0)) ∙ ap (λ b. eqb (l .loop .others) 0 && b) (sym none) ∙ l .loop .inv .2

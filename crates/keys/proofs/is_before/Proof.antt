@@ -4,6 +4,7 @@ use native.Mathlib.Omega.{arith}
 use lib.ListN.{length}
 use borrow.Author.Needs.{needs}
 use Rattle.lemmas.specs.Fronts.{front-taken}
+use Rattle.model.specs.File.{keyRoom}
 use Rattle.keys.specs.Key.{keyOf}
 use Rattle.keys.specs.KeyLaws.{keyOf-length, keyOf-front}
 use Rattle.keys.proofs.is_before.Statement.{statement}
@@ -18,8 +19,8 @@ key-len-requires-2 c κs = search needs
 precedes-requires : tie.Need-precedes-requires
 precedes-requires c κs =
     let s = c .before .before .before .before .before .before .before .before .args in
-    let full-a : length (s .t1 .bytes) ≡ 40 = search needs in
-    let full-b : length (s .t2 .bytes) ≡ 40 = search needs in
+    let full-a : length (s .t1 .bytes) ≡ keyRoom = search needs in
+    let full-b : length (s .t2 .bytes) ≡ keyRoom = search needs in
     let short-a = keyOf-length (s .t1) in
     let short-b = keyOf-length (s .t2) in
     (omega arith, omega arith, omega arith, omega arith)
@@ -30,8 +31,8 @@ returns c =
     let p = q .before in
     let a = p .before .args .t1 in
     let b = p .before .args .t2 in
-    let full-a : length (a .bytes) ≡ 40 = search needs in
-    let full-b : length (b .bytes) ≡ 40 = search needs in
+    let full-a : length (a .bytes) ≡ keyRoom = search needs in
+    let full-b : length (b .bytes) ≡ keyRoom = search needs in
     let left = front-taken (keyOf a) (a .bytes) (p .key-len .result) (keyOf-front a full-a) (p .key-len .ensures) in
     let right = front-taken (keyOf b) (b .bytes) (q .key-len2 .result) (keyOf-front b full-b) (q .key-len2 .ensures) in
     rw (← left, ← right) (c .precedes .ensures)

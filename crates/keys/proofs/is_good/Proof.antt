@@ -10,7 +10,7 @@ use mir.Val.{Fits}
 use mir.Syntax.{w8}
 use borrow.Author.Needs.{needs}
 use Rattle.lemmas.specs.AreBytes.{bytes-all}
-use Rattle.model.specs.File.{full}
+use Rattle.model.specs.File.{full, longestUser}
 use Rattle.keys.specs.Key.{keyOf}
 use Rattle.keys.specs.KeyLaws.{keyOf-length, keyOf-bytes, good-is, too-short}
 use Rattle.keys.proofs.is_good.Statement.{statement}
@@ -25,7 +25,7 @@ bytes-here c = bytes-all (c .args .k .bytes) (λ i. let f : Fits w8 (getD (c .ar
 
 returns : tie.Need-returns
 unfolding full
-returns c = sym (too-short 32 (keyOf (c .before .before .args .k)) (omega arith))
+returns c = sym (too-short longestUser (keyOf (c .before .before .args .k)) (omega arith))
 
 kind-requires : tie.Need-kind-requires
 kind-requires c κs = search needs
@@ -35,7 +35,7 @@ unfolding full
 returns-2 c =
     let s = c .before .before .before in
     let x = keyOf (s .args .k) in
-    ap (λ (n : ℕ). leb n 1) (c .kind .ensures) ∙ sym (good-is 32 x (omega arith) (keyOf-length (s .args .k)) (keyOf-bytes (s .args .k) (bytes-here s)))
+    ap (λ (n : ℕ). leb n 1) (c .kind .ensures) ∙ sym (good-is longestUser x (omega arith) (keyOf-length (s .args .k)) (keyOf-bytes (s .args .k) (bytes-here s)))
 
 pub is-good-spec : {M : Type 1} → statement M
 is-good-spec = tie.close (tie.spec key-len-requires returns kind-requires returns-2)

@@ -8,7 +8,7 @@ use mir.Val.{Fits}
 use mir.Syntax.{w8}
 use borrow.Author.Needs.{needs}
 use Rattle.lemmas.specs.AreBytes.{bytes-all}
-use Rattle.model.specs.File.{full}
+use Rattle.model.specs.File.{full, longestUser}
 use Rattle.keys.specs.Key.{userOf}
 use Rattle.keys.specs.KeyLaws.{userOf-length, userOf-bytes, good-user-is}
 use Rattle.keys.proofs.is_good_user.Statement.{statement}
@@ -25,7 +25,7 @@ returns : tie.Need-returns
 unfolding full
 returns c =
     let u = c .before .args .u in
-    ap (ltb 0) (c .user-key-len .ensures) ∙ sym (good-user-is 32 (userOf u) (userOf-length u) (userOf-bytes u (bytes-here (c .before))))
+    ap (ltb 0) (c .user-key-len .ensures) ∙ sym (good-user-is longestUser (userOf u) (userOf-length u) (userOf-bytes u (bytes-here (c .before))))
 
 pub is-good-user-spec : {M : Type 1} → statement M
 is-good-user-spec = tie.close (tie.spec user-key-len-requires returns)

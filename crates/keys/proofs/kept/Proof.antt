@@ -3,6 +3,7 @@ use mathlib.Core.Path.{_≡_, _∙_}
 use native.Mathlib.Omega.{arith}
 use lib.ListN.{length}
 use borrow.Author.Needs.{needs}
+use Rattle.model.specs.File.{keyRoom}
 use Rattle.keys.specs.Key.{keyOf, padded, keyRecord}
 use Rattle.keys.specs.KeyLaws.{keyOf-front, keyOf-length}
 use Rattle.keys.proofs.Laid.{front-laid}
@@ -21,7 +22,7 @@ part-copy-into-start c = search needs
 part-copy-into-end : tie.Need-part-copy-into-end
 part-copy-into-end c =
     let k = c .before .before .before .args .k in
-    let full : length (k .bytes) ≡ 40 = search needs in
+    let full : length (k .bytes) ≡ keyRoom = search needs in
     omega (arith, keyOf-length k)
 
 slice-aggregate-copy-into : tie.Need-slice-aggregate-copy-into
@@ -34,10 +35,10 @@ returns : tie.Need-returns
 unfolding keyRecord
 returns c =
     let k = c .before .before .before .before .before .before .before .args .k in
-    let full : length (k .bytes) ≡ 40 = search needs in
+    let full : length (k .bytes) ≡ keyRoom = search needs in
     let n : c .before .before .before .before .before .before .key-len .result ≡ length (keyOf k) = c .before .before .before .before .before .before .key-len .ensures in
-    let e : c .before .copy-into .last .1 .0 ≡ padded 40 (keyOf k) =
-    c .before .copy-into .ensures ∙ front-laid 40 (keyOf k) (k .bytes) (c .before .before .before .before .before .before .key-len .result) (keyOf-length k) (keyOf-front k full) n in
+    let e : c .before .copy-into .last .1 .0 ≡ padded keyRoom (keyOf k) =
+    c .before .copy-into .ensures ∙ front-laid keyRoom (keyOf k) (k .bytes) (c .before .before .before .before .before .before .key-len .result) (keyOf-length k) (keyOf-front k full) n in
     λ i. record { bytes = e i; len = n i }
 
 pub kept-spec : {M : Type 1} → statement M

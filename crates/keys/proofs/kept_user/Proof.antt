@@ -3,6 +3,7 @@ use mathlib.Core.Path.{_≡_, _∙_}
 use native.Mathlib.Omega.{arith}
 use lib.ListN.{length}
 use borrow.Author.Needs.{needs}
+use Rattle.model.specs.File.{longestUser}
 use Rattle.keys.specs.Key.{userOf, padded, userRecord}
 use Rattle.keys.specs.KeyLaws.{userOf-front, userOf-length}
 use Rattle.keys.proofs.Laid.{front-laid}
@@ -21,7 +22,7 @@ part-copy-into-start c = search needs
 part-copy-into-end : tie.Need-part-copy-into-end
 part-copy-into-end c =
     let u = c .before .before .before .args .u in
-    let full : length (u .bytes) ≡ 32 = search needs in
+    let full : length (u .bytes) ≡ longestUser = search needs in
     omega (arith, userOf-length u)
 
 slice-aggregate-copy-into : tie.Need-slice-aggregate-copy-into
@@ -34,10 +35,10 @@ returns : tie.Need-returns
 unfolding userRecord
 returns c =
     let u = c .before .before .before .before .before .before .before .args .u in
-    let full : length (u .bytes) ≡ 32 = search needs in
+    let full : length (u .bytes) ≡ longestUser = search needs in
     let n : c .before .before .before .before .before .before .user-key-len .result ≡ length (userOf u) = c .before .before .before .before .before .before .user-key-len .ensures in
-    let e : c .before .copy-into .last .1 .0 ≡ padded 32 (userOf u) =
-    c .before .copy-into .ensures ∙ front-laid 32 (userOf u) (u .bytes) (c .before .before .before .before .before .before .user-key-len .result) (userOf-length u) (userOf-front u full) n in
+    let e : c .before .copy-into .last .1 .0 ≡ padded longestUser (userOf u) =
+    c .before .copy-into .ensures ∙ front-laid longestUser (userOf u) (u .bytes) (c .before .before .before .before .before .before .user-key-len .result) (userOf-length u) (userOf-front u full) n in
     λ i. record { bytes = e i; len = n i }
 
 pub kept-user-spec : {M : Type 1} → statement M

@@ -2,6 +2,7 @@
 use mathlib.Core.Path.{_≡_, _∙_}
 use lib.ListN.{length}
 use borrow.Author.Needs.{needs}
+use Rattle.model.specs.File.{keyRoom}
 use Rattle.keys.specs.Key.{keyOf}
 use Rattle.keys.specs.KeyLaws.{held-len}
 use Rattle.keys.proofs.key_len.Statement.{statement}
@@ -14,8 +15,8 @@ returns : tie.Need-returns
 unfolding keyOf
 returns c =
     let k = c .before .args .k in
-    let full : length (k .bytes) ≡ 40 = search needs in
-    c .held-len .ensures ∙ held-len 40 (k .bytes) (k .len) full
+    let full : length (k .bytes) ≡ keyRoom = search needs in
+    c .held-len .ensures ∙ held-len keyRoom (k .bytes) (k .len) full
 
 pub key-len-spec : {M : Type 1} → statement M
 key-len-spec = tie.close (tie.spec held-len-requires returns)

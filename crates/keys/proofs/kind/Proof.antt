@@ -9,6 +9,7 @@ use mir.Val.{Fits}
 use mir.Syntax.{w8}
 use borrow.Author.Needs.{needs}
 use Rattle.lemmas.specs.AreBytes.{bytes-all}
+use Rattle.model.specs.File.{keyRoom}
 use Rattle.keys.specs.Key.{keyOf}
 use Rattle.keys.specs.KeyLaws.{keyOf-length, keyOf-bytes, keyOf-at, user-length, kind-none, kind-at}
 use Rattle.keys.proofs.kind.Statement.{statement}
@@ -30,7 +31,7 @@ user-len-requires c κs = search needs
 byte-requires : tie.Need-byte-requires
 byte-requires c κs =
     let k = c .before .before .before .before .before .before .args .t1 in
-    let full : length (k .bytes) ≡ 40 = search needs in
+    let full : length (k .bytes) ≡ keyRoom = search needs in
     (omega (arith, user-length (keyOf k), keyOf-length k), omega arith)
 
 returns-2 : tie.Need-returns-2
@@ -38,7 +39,7 @@ returns-2 c =
     let u = c .before .before .before .before in
     let s = u .before .before .before in
     let k = s .args .t1 in
-    let full : length (k .bytes) ≡ 40 = search needs in
+    let full : length (k .bytes) ≡ keyRoom = search needs in
     let at : u .user-len .result ≡ length (keyOf k) - 8 = omega (arith, user-length (keyOf k)) in
     let some : 0 < length (keyOf k) = omega arith in
     c .byte .ensures ∙ ap (λ (i : ℕ). getD (k .bytes) i 0) at

@@ -2,7 +2,7 @@
 use mathlib.Core.Path.{sym, _∙_}
 use borrow.Author.Needs.{needs}
 use Rattle.model.specs.Key.{before}
-use Rattle.octets.specs.Standing.{stands-less, stands-greater, stands-equal}
+use Rattle.octets.specs.StandingLaws.{stands-less, stands-greater, stands-equal}
 use Rattle.keys.proofs.order_of_keys.Statement.{statement}
 use Rattle.keys.proofs.order_of_keys.Tie as tie
 

@@ -4,6 +4,7 @@ use native.Mathlib.Omega.{arith}
 use lib.ListN.{length}
 use borrow.Author.Needs.{needs}
 use Rattle.lemmas.specs.Fronts.{front-taken}
+use Rattle.model.specs.File.{keyRoom}
 use Rattle.keys.specs.Key.{keyOf}
 use Rattle.keys.specs.KeyLaws.{keyOf-length, keyOf-front}
 use Rattle.keys.proofs.sequence.Statement.{statement}
@@ -15,14 +16,14 @@ key-len-requires c κs = search needs
 sequence-of-requires : tie.Need-sequence-of-requires
 sequence-of-requires c κs =
     let k = c .before .before .before .before .args .t1 in
-    let full : length (k .bytes) ≡ 40 = search needs in
+    let full : length (k .bytes) ≡ keyRoom = search needs in
     omega (arith, keyOf-length k)
 
 returns : tie.Need-returns
 returns c =
     let p = c .before .before .before .before in
     let k = p .before .args .t1 in
-    let full : length (k .bytes) ≡ 40 = search needs in
+    let full : length (k .bytes) ≡ keyRoom = search needs in
     rw (← front-taken (keyOf k) (k .bytes) (p .key-len .result) (keyOf-front k full) (p .key-len .ensures)) (c .sequence-of .ensures)
 
 pub sequence-spec : {M : Type 1} → statement M

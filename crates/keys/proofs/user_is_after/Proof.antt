@@ -4,8 +4,9 @@ use mathlib.Core.Path.{sym, _∙_}
 use mathlib.Core.List.{List}
 use borrow.Author.Needs.{needs}
 use Rattle.model.specs.Key as model
+use Rattle.model.specs.KeyLaws.{userBefore-order}
 use Rattle.keys.specs.Key.{keyOf, userOf}
-use Rattle.octets.specs.Standing.{standing-before, standing-equal, standing-greater}
+use Rattle.octets.specs.StandingLaws.{standing-before, standing-equal, standing-greater}
 use Rattle.keys.proofs.user_is_after.Statement.{statement}
 use Rattle.keys.proofs.user_is_after.Tie as tie
 
@@ -31,7 +32,7 @@ enum-told-3 c = search needs
 returns : tie.Need-returns
 returns c =
     let s = c .before .before .before in
-    sym (standing-before model.userBefore model.userBefore-order (U s) (W s) (sym (c .before .before .order-of-user .ensures) ∙ c .enum-told .given .1) .1)
+    sym (standing-before model.userBefore userBefore-order (U s) (W s) (sym (c .before .before .order-of-user .ensures) ∙ c .enum-told .given .1) .1)
 
 returns-2 : tie.Need-returns-2
 returns-2 c =

@@ -3,7 +3,7 @@ use mathlib.Core.Path.{_∙_, ap}
 use borrow.Author.Needs.{needs}
 use Rattle.model.specs.Key as model
 use Rattle.octets.specs.Octets.{less}
-use Rattle.octets.specs.Standing.{less-standing}
+use Rattle.octets.specs.StandingLaws.{less-standing}
 use Rattle.keys.specs.Key.{keyOf, userOf}
 use Rattle.keys.proofs.user_is_before.Statement.{statement}
 use Rattle.keys.proofs.user_is_before.Tie as tie

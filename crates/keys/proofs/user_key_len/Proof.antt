@@ -2,6 +2,7 @@
 use mathlib.Core.Path.{_≡_, _∙_}
 use lib.ListN.{length}
 use borrow.Author.Needs.{needs}
+use Rattle.model.specs.File.{longestUser}
 use Rattle.keys.specs.Key.{userOf}
 use Rattle.keys.specs.KeyLaws.{held-len}
 use Rattle.keys.proofs.user_key_len.Statement.{statement}
@@ -14,8 +15,8 @@ returns : tie.Need-returns
 unfolding userOf
 returns c =
     let u = c .before .args .u in
-    let full : length (u .bytes) ≡ 32 = search needs in
-    c .held-len .ensures ∙ held-len 32 (u .bytes) (u .len) full
+    let full : length (u .bytes) ≡ longestUser = search needs in
+    c .held-len .ensures ∙ held-len longestUser (u .bytes) (u .len) full
 
 pub user-key-len-spec : {M : Type 1} → statement M
 user-key-len-spec = tie.close (tie.spec held-len-requires returns)

@@ -6,6 +6,7 @@ use borrow.Author.Needs.{needs}
 use borrow.Author.Tests.{not-true, not-false}
 use lib.ListN.{length, take}
 use Rattle.lemmas.specs.Lists.{distinct}
+use Rattle.model.specs.File.{maxFiles}
 use Rattle.levels.specs.Levels.{tellsWell}
 use Rattle.levels.proofs.are_well_formed.Statement.{statement}
 use Rattle.levels.proofs.are_well_formed.Tie as tie
@@ -14,19 +15,19 @@ returns : tie.Need-returns
 unfolding tellsWell
 returns c = let v = c .before .before .args .v in sym (rw (not-true (v .arranged) (c .if1 .taken)))
 
-sub-no-twice : tie.Need-sub-no-twice
-sub-no-twice c = search needs
+sub-all-distinct : tie.Need-sub-all-distinct
+sub-all-distinct c = search needs
 
-part-no-twice-start : tie.Need-part-no-twice-start
-part-no-twice-start c = search needs
+part-all-distinct-start : tie.Need-part-all-distinct-start
+part-all-distinct-start c = search needs
 
-part-no-twice-end : tie.Need-part-no-twice-end
-part-no-twice-end c =
-    let room : length (c .before .before .before .before .args .v .numbers) ≡ 256 = search needs in
+part-all-distinct-end : tie.Need-part-all-distinct-end
+part-all-distinct-end c =
+    let room : length (c .before .before .before .before .args .v .numbers) ≡ maxFiles = search needs in
     omega (arith, room)
 
-no-twice-requires : tie.Need-no-twice-requires
-no-twice-requires c κs = search needs
+all-distinct-requires : tie.Need-all-distinct-requires
+all-distinct-requires c κs = search needs
 
 returns-2 : tie.Need-returns-2
 unfolding tellsWell
@@ -34,15 +35,15 @@ returns-2 c =
     let e = c .before .before .before .before in
     let v = e .before .before .args .v in
     let n : v .total - 0 ≡ v .total = omega arith in
-    c .no-twice .ensures ∙ ap (λ (k : ℕ). distinct (take k (v .numbers))) n ∙ sym (rw (not-false (v .arranged) (e .if1 .left)))
+    c .all-distinct .ensures ∙ ap (λ (k : ℕ). distinct (take k (v .numbers))) n ∙ sym (rw (not-false (v .arranged) (e .if1 .left)))
 
 pub are-well-formed-spec : {M : Type 1} → statement M
 are-well-formed-spec =
     tie.close
     (tie.spec
     returns
-    sub-no-twice
-    part-no-twice-start
-    part-no-twice-end
-    no-twice-requires
+    sub-all-distinct
+    part-all-distinct-start
+    part-all-distinct-end
+    all-distinct-requires
     returns-2)

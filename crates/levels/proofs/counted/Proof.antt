@@ -5,14 +5,15 @@ use native.Mathlib.Omega.{arith}
 use lib.ListN.{drop}
 use Rattle.lemmas.specs.Lists.{sum}
 use Rattle.lemmas.specs.Slices.{sum-turn, sum-over}
+use Rattle.model.specs.File.{levelCount, maxFiles}
 use Rattle.levels.proofs.counted.Statement.{statement}
 use Rattle.levels.proofs.counted.Tie as tie
 
 abbrev Inv-loop : tie.InvT-loop
-Inv-loop counts s₀ i₀ s i = (i ≤ 7) × (s ≤ 256) × (s + sum (drop i counts) ≡ sum counts)
+Inv-loop counts s₀ i₀ s i = (i ≤ levelCount) × (s ≤ maxFiles) × (s + sum (drop i counts) ≡ sum counts)
 
 abbrev μ-loop : tie.MeasureT-loop
-μ-loop counts s₀ i₀ s i = 7 - i
+μ-loop counts s₀ i₀ s i = levelCount - i
 
 loop-holds : tie.Need-loop-holds Inv-loop μ-loop
 loop-holds c = (omega arith, omega arith, omega arith)

@@ -1,6 +1,6 @@
--- `levels::survey` meets its contract. Loop by loop: the records from i on decide for all, and their numbers stand in the column; the levels from this one
--- on are in order, and their bytes, laid down from its place on, give all; in a level the files from the one before i on are in order, and the bytes so far and
--- those from i on are its bytes; the places from i on are blank. Assumes nothing.
+-- `levels::survey` meets its contract. Invariants, loop by loop. Records: those from i on decide, and their numbers are in the column. Levels: those from this one
+-- on decide, and writing their bytes gives all bytes. Files of a level: those from i - 1 on decide, and the bytes so far plus theirs are the level's. Blank places:
+-- those from i on decide. Assumes nothing.
 use Prim.Native.Nat.{ℕ, _+_, _-_, _*_, _^_, _≤_, _<_}
 use mathlib.Core.Path.{_≡_, refl, sym, ap, _∙_}
 use mathlib.Core.Logic.{⊎-elim}
@@ -14,9 +14,9 @@ use lib.Seq.{slice}
 use Rattle.lemmas.specs.Lists.{all, sum}
 use Rattle.lemmas.specs.Slices.{put, put-cons, put-nil, rest-cons, run-past, sum-turn, sum-over}
 use Rattle.lemmas.specs.Loops.{all-found, all-passed, all-here, all-later}
-use Rattle.model.specs.File.{inOrder, levelwise, numbers, total}
-use Rattle.records.specs.Record.{wellRecord, isBlank}
-use Rattle.records.specs.RecordLaws.{past, numbers-turn, numbers-ended, total-turn, total-ended}
+use Rattle.model.specs.File.{inOrder, levelwise, numbers, total, levelCount, maxFiles, maxSize}
+use Rattle.records.specs.Record.{wellRecord, isBlank, past}
+use Rattle.records.specs.RecordLaws.{numbers-turn, numbers-ended, total-turn, total-ended}
 use Rattle.records.specs.Run.{run}
 use Rattle.records.proofs.Shape.{all-words}
 use Rattle.levels.specs.declared.Surveyed.{Surveyed}
@@ -26,28 +26,28 @@ use Rattle.levels.proofs.survey.Statement.{statement}
 use Rattle.levels.proofs.survey.Tie as tie
 
 abbrev Inv-loop2 : tie.InvT-loop2
-Inv-loop2 files counts n column₀ sums i₀ level from to bytes₀ column i bytes = (from ≤ i) × (i ≤ to) × (to ≤ n) × (length column ≡ 256)
-    × (put column i (numbers (run i n files)) ≡ put (replicate 256 0) 0 (numbers (run 0 n files))) × (all wellRecord (slice i n files) ≡ all wellRecord (slice 0 n files))
+Inv-loop2 files counts n column₀ sums i₀ level from to bytes₀ column i bytes = (from ≤ i) × (i ≤ to) × (to ≤ n) × (length column ≡ maxFiles)
+    × (put column i (numbers (run i n files)) ≡ put (replicate maxFiles 0) 0 (numbers (run 0 n files))) × (all wellRecord (slice i n files) ≡ all wellRecord (slice 0 n files))
     × (from < i → inOrder level (run (i - 1) to files) ≡ inOrder level (run from to files))
-    × (bytes + total (run i to files) ≡ total (run from to files)) × (bytes ≤ (i - from) * 2 ^ 40)
+    × (bytes + total (run i to files) ≡ total (run from to files)) × (bytes ≤ (i - from) * maxSize)
 
 abbrev μ-loop2 : tie.MeasureT-loop2
 μ-loop2 files counts n column₀ sums i₀ level from to bytes₀ column i bytes = to - i
 
 abbrev Inv-loop : tie.InvT-loop
-Inv-loop files counts n column₀ sums₀ i₀ level₀ column sums i level = (level ≤ 7) × (i + sum (drop level counts) ≡ n) × (length column ≡ 256) × (length sums ≡ 7)
-    × (put column i (numbers (run i n files)) ≡ put (replicate 256 0) 0 (numbers (run 0 n files))) × (all wellRecord (slice i n files) ≡ all wellRecord (slice 0 n files))
+Inv-loop files counts n column₀ sums₀ i₀ level₀ column sums i level = (level ≤ levelCount) × (i + sum (drop level counts) ≡ n) × (length column ≡ maxFiles) × (length sums ≡ levelCount)
+    × (put column i (numbers (run i n files)) ≡ put (replicate maxFiles 0) 0 (numbers (run 0 n files))) × (all wellRecord (slice i n files) ≡ all wellRecord (slice 0 n files))
     × (levelwise inOrder level (levelsOf (drop i files) (drop level counts)) ≡ levelwise inOrder 0 (levelsOf files counts))
     × (put sums level (map total (levelsOf (drop i files) (drop level counts))) ≡ map total (levelsOf files counts))
 
 abbrev μ-loop : tie.MeasureT-loop
-μ-loop files counts n column₀ sums₀ i₀ level₀ column sums i level = 7 - level
+μ-loop files counts n column₀ sums₀ i₀ level₀ column sums i level = levelCount - level
 
 abbrev Inv-loop3 : tie.InvT-loop3
-Inv-loop3 files n column sums i₀ level i = (i ≤ 256) × (all isBlank (drop i files) ≡ all isBlank (drop n files))
+Inv-loop3 files n column sums i₀ level i = (i ≤ maxFiles) × (all isBlank (drop i files) ≡ all isBlank (drop n files))
 
 abbrev μ-loop3 : tie.MeasureT-loop3
-μ-loop3 files n column sums i₀ level i = 256 - i
+μ-loop3 files n column sums i₀ level i = maxFiles - i
 
 counted-requires : tie.Need-counted-requires Inv-loop2 μ-loop2 Inv-loop μ-loop Inv-loop3 μ-loop3
 counted-requires c κs = search needs
@@ -57,9 +57,9 @@ telling : (c : tie.Start Inv-loop2 μ-loop2 Inv-loop μ-loop Inv-loop3 μ-loop3)
 telling c r e =
     let files = c .args .t1 in
     let counts = c .args .t2 in
-    let q : length files ≡ 256 = search needs in
-    let k : length counts ≡ 7 = search needs in
-    (e, ap tellsWell e ∙ survey-well files counts q k (all-words 256 files _ (c .good .0)))
+    let q : length files ≡ maxFiles = search needs in
+    let k : length counts ≡ levelCount = search needs in
+    (e, ap tellsWell e ∙ survey-well files counts q k (all-words maxFiles files _ (c .good .0)))
 
 nothing-seen-requires : tie.Need-nothing-seen-requires Inv-loop2 μ-loop2 Inv-loop μ-loop Inv-loop3 μ-loop3
 nothing-seen-requires c κs = search needs
@@ -75,7 +75,7 @@ parts : (c : tie.Else1 Inv-loop2 μ-loop2 Inv-loop μ-loop Inv-loop3 μ-loop3) �
     arranged files counts ≡ all wellRecord (take n files) && all isBlank (drop n files) && levelwise inOrder 0 (levelsOf files counts)
 parts c =
     let s = c .before .before in
-    let k : length (s .args .t2) ≡ 7 = search needs in
+    let k : length (s .args .t2) ≡ levelCount = search needs in
     let count : c .before .counted .result ≡ sum (s .args .t2) = omega arith in
     rw count (arranged-is (s .args .t1) (s .args .t2) (omega arith))
 
@@ -88,8 +88,8 @@ unseen c t = let a = c .before .before .args in sym (survey-none (a .t1) (a .t2)
 loop-holds : tie.Need-loop-holds Inv-loop2 μ-loop2 Inv-loop μ-loop Inv-loop3 μ-loop3
 loop-holds c =
     let a = c .before .before .args in
-    let k : length (a .t2) ≡ 7 = search needs in
-    (omega arith, omega arith, refl, refl, refl, refl, refl, bytes-start (a .t1) (a .t2) (replicate 7 0) (sym k))
+    let k : length (a .t2) ≡ levelCount = search needs in
+    (omega arith, omega arith, refl, refl, refl, refl, refl, bytes-start (a .t1) (a .t2) (replicate levelCount 0) (sym k))
 
 mul-to : tie.Need-mul-to Inv-loop2 μ-loop2 Inv-loop μ-loop Inv-loop3 μ-loop3
 mul-to c = omega arith
@@ -127,7 +127,7 @@ returns-2 c =
     let e = m .before .before .before in
     let files = e .before .before .args .t1 in
     let n = e .before .counted .result in
-    let q : length files ≡ 256 = search needs in
+    let q : length files ≡ maxFiles = search needs in
     let t = sym (w .is-well-formed .ensures) ∙ not-true (w .is-well-formed .result) (c .before .if2 .taken) in
     let u = sym (m .loop2 .inv .5) ∙ all-found wellRecord (m .loop2 .i) n files past (omega arith) (omega arith) t in
     telling (e .before .before) (c .nothing-seen2 .result) (c .nothing-seen2 .ensures ∙ unseen e (rw u))
@@ -157,8 +157,8 @@ returns-3 c =
     let a = e .before .before .args in
     let n = e .before .counted .result in
     let to = o .loop .i + getD (a .t2) (o .loop .level) 0 in
-    let q : length (a .t1) ≡ 256 = search needs in
-    let k : length (a .t2) ≡ 7 = search needs in
+    let q : length (a .t1) ≡ maxFiles = search needs in
+    let k : length (a .t2) ≡ levelCount = search needs in
     let t = sym (w .may-follow .ensures) ∙ not-true (w .may-follow .result) (c .before .if4 .taken) in
     let broken = sym (m .loop2 .inv .6 (h .if3 .taken)) ∙ next-fails (o .loop .level) (m .loop2 .i) to (a .t1) (omega arith) (omega arith) (omega arith) t in
     let order = sym (o .loop .inv .6) ∙ order-failed (a .t1) (a .t2) (o .loop .level) (o .loop .i) (omega arith) broken in
@@ -179,13 +179,13 @@ well-here c = sym (c .before .is-well-formed .ensures) ∙ not-false (c .before 
 -- the bytes from i on begin with its size, which is within its bound
 sized : (c : tie.Else2 Inv-loop2 μ-loop2 Inv-loop μ-loop Inv-loop3 μ-loop3) → let m = c .before .before .before .before in let o = m .before .before in
     let a = o .before .before .before .args in let i = m .loop2 .i in let to = o .loop .i + getD (a .t2) (o .loop .level) 0 in
-    (total (run i to (a .t1)) ≡ getD (a .t1) i past .size + total (run (i + 1) to (a .t1))) × (getD (a .t1) i past .size ≤ 2 ^ 40)
+    (total (run i to (a .t1)) ≡ getD (a .t1) i past .size + total (run (i + 1) to (a .t1))) × (getD (a .t1) i past .size ≤ maxSize)
 sized c =
     let m = c .before .before .before .before in
     let o = m .before .before in
     let a = o .before .before .before .args in
     let i = m .loop2 .i in
-    let q : length (a .t1) ≡ 256 = search needs in
+    let q : length (a .t1) ≡ maxFiles = search needs in
     (total-turn i (o .loop .i + getD (a .t2) (o .loop .level) 0) (a .t1) (omega arith) (omega arith), size-bound (getD (a .t1) i past) (well-here c))
 
 -- it is the level's first or may follow the one before it: the files from it on decide for the level
@@ -199,7 +199,7 @@ goes-on c =
     let i = m .loop2 .i in
     let level = o .loop .level in
     let to = o .loop .i + getD (a .t2) level 0 in
-    let q : length (a .t1) ≡ 256 = search needs in
+    let q : length (a .t1) ≡ maxFiles = search needs in
     ⊎-elim
     (λ w.
     let after = w .0 .taken in
@@ -229,7 +229,7 @@ loop2-again c =
     let n = e .before .counted .result in
     let i = m .loop2 .i in
     let column = m .loop2 .column in
-    let q : length files ≡ 256 = search needs in
+    let q : length files ≡ maxFiles = search needs in
     let number = getD files i past .number .0 in
     let s = sized x in
     let turn : put (set column i number) (i + 1) (numbers (run (i + 1) n files)) ≡ put column i (numbers (run i n files)) =
@@ -265,8 +265,8 @@ loop-again c =
     let level = o .loop .level in
     let from = o .loop .i in
     let to = from + getD (a .t2) level 0 in
-    let q : length (a .t1) ≡ 256 = search needs in
-    let k : length (a .t2) ≡ 7 = search needs in
+    let q : length (a .t1) ≡ maxFiles = search needs in
+    let k : length (a .t2) ≡ levelCount = search needs in
     let turn = sum-turn (a .t2) level (omega arith) in
     let place : m .loop2 .i ≡ to = omega arith in
     let bytes : m .loop2 .bytes ≡ total (run from to (a .t1)) = omega (arith, total-ended (m .loop2 .i) to (a .t1) (omega arith)) in
@@ -288,7 +288,7 @@ loop-again c =
 gone-over : (c : tie.After-loop Inv-loop2 μ-loop2 Inv-loop μ-loop Inv-loop3 μ-loop3) → c .before .loop .i ≡ c .before .before .before .counted .result
 gone-over c =
     let o = c .before in
-    let k : length (o .before .before .before .args .t2) ≡ 7 = search needs in
+    let k : length (o .before .before .before .args .t2) ≡ levelCount = search needs in
     omega (arith, sum-over (o .before .before .before .args .t2) (o .loop .level) (omega arith))
 
 -- all records have passed
@@ -302,7 +302,7 @@ passed c =
 
 -- the column holds their numbers
 column-held : (c : tie.After-loop Inv-loop2 μ-loop2 Inv-loop μ-loop Inv-loop3 μ-loop3) → let e = c .before .before in
-    c .before .loop .column ≡ put (replicate 256 0) 0 (numbers (run 0 (e .before .counted .result) (e .before .before .args .t1)))
+    c .before .loop .column ≡ put (replicate maxFiles 0) 0 (numbers (run 0 (e .before .counted .result) (e .before .before .args .t1)))
 column-held c =
     let e = c .before .before in
     let l = c .before .loop in
@@ -316,7 +316,7 @@ order-held : (c : tie.After-loop Inv-loop2 μ-loop2 Inv-loop μ-loop Inv-loop3 �
 order-held c =
     let a = c .before .before .before .before .args in
     let l = c .before .loop in
-    let k : length (a .t2) ≡ 7 = search needs in
+    let k : length (a .t2) ≡ levelCount = search needs in
     (sym (l .inv .6) ∙ order-ended (a .t1) (a .t2) (l .level) (l .i) (omega arith), sym (bytes-over (a .t1) (a .t2) (l .sums) (l .level) (l .i) (omega arith)) ∙ l .inv .7)
 
 loop3-holds : tie.Need-loop3-holds Inv-loop2 μ-loop2 Inv-loop μ-loop Inv-loop3 μ-loop3
@@ -344,7 +344,7 @@ returns-4 c =
     let e = r .before .before in
     let files = e .before .before .args .t1 in
     let i = l .loop3 .i in
-    let q : length files ≡ 256 = search needs in
+    let q : length files ≡ maxFiles = search needs in
     let t = sym (w .is-blank .ensures) ∙ not-true (w .is-blank .result) (c .before .if5 .taken) in
     let u = sym (l .loop3 .inv .1) ∙ all-here isBlank (drop i files) (drop (i + 1) files) (getD files i past) (rest-cons files i past (omega arith)) t in
     telling (e .before .before) (c .nothing-seen4 .result) (c .nothing-seen4 .ensures ∙ unseen e (rw (passed r, u)))
@@ -360,7 +360,7 @@ loop3-again c =
     let l = c .before .before .before .before in
     let files = l .before .before .before .before .before .args .t1 in
     let i = l .loop3 .i in
-    let q : length files ≡ 256 = search needs in
+    let q : length files ≡ maxFiles = search needs in
     let t = sym (c .before .is-blank .ensures) ∙ not-false (c .before .is-blank .result) (c .if5 .left) in
     (omega arith, sym (all-later isBlank (drop i files) (drop (i + 1) files) (getD files i past) (rest-cons files i past (omega arith)) t) ∙ l .loop3 .inv .1)
 
@@ -371,7 +371,7 @@ unfolding all
 blank-after c =
     let e = c .before .before .before .before in
     let files = e .before .before .args .t1 in
-    let q : length files ≡ 256 = search needs in
+    let q : length files ≡ maxFiles = search needs in
     let ended : length files ≤ c .before .loop3 .i = omega arith in
     sym (c .before .loop3 .inv .1) ∙ rw (drop-of-length-le files ended)
 
@@ -381,7 +381,7 @@ returns-5 c =
     let o = r .before in
     let e = o .before in
     let a = e .before .before .args in
-    let k : length (a .t2) ≡ 7 = search needs in
+    let k : length (a .t2) ≡ levelCount = search needs in
     let count : e .before .counted .result ≡ sum (a .t2) = omega arith in
     let told = order-held r in
     let t : arranged (a .t1) (a .t2) ≡ true = rw (parts e, passed r, blank-after c) (told .0) in

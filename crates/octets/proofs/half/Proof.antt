@@ -1,4 +1,4 @@
--- `octets::half` meets its contract. The loop's invariant: the bytes that are left go on from x to the whole number. Assumes nothing.
+-- `octets::half` meets its contract. The loop's invariant: x followed by the bytes that are left is the whole number. Assumes nothing.
 use Prim.Native.Nat.{ℕ, suc, _+_, _-_, _*_, _^_, _≤_, _<_}
 use mathlib.Core.Path.{_≡_, sym, ap, _∙_}
 use native.Mathlib.Omega.{arith}

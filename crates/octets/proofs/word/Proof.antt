@@ -1,4 +1,4 @@
--- `octets::word` meets its contract: the first half goes before the second. Assumes nothing.
+-- `octets::word` meets its contract: the first half is the upper part of the number. Assumes nothing.
 use Prim.Native.Nat.{ℕ, _+_, _*_, _≤_}
 use mathlib.Core.Path.{_≡_, refl, sym, ap, _∙_}
 use mathlib.Core.List.{List, [], _∷_, _++_}

@@ -1,5 +1,5 @@
--- `octets::zeros_from` meets its contract. The loop's invariant: i is a multiple of eight, and zeros stand from n on if they do from the byte after the first c at i on.
--- Assumes nothing.
+-- `octets::zeros_from` meets its contract. The loop's invariant: i is a multiple of eight, and all bytes from n on are 0 if those from i + c on are. Assumes
+-- nothing.
 use Prim.Native.Nat.{ℕ, _+_, _-_, _*_, _%_, _^_, _≤_, _<_}
 use mathlib.Core.Path.{_≡_, sym, ap, _∙_}
 use mathlib.Core.Bool.{true}

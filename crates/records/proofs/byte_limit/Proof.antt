@@ -6,7 +6,7 @@ use native.Mathlib.Omega.{arith}
 use lib.ListN.{getD}
 use borrow.Author.Needs.{needs}
 use borrow.Author.Tests.{le-leb, lt-leb, lt-ltb, le-ltb}
-use Rattle.model.specs.File.{full}
+use Rattle.model.specs.File.{full, levelCount}
 use Rattle.lemmas.specs.Lists.{upFrom}
 use Rattle.lemmas.specs.Slices.{getD-map}
 use Rattle.model.specs.Score.{byteLimit}
@@ -37,8 +37,8 @@ returns-2 : tie.Need-returns-2
 unfolding limitOf full
 returns-2 c =
     let l = c .before .before .args .level in
-    let h : 7 ≤ l + 1 = omega arith in
-    rw (le-leb 1 l (c .before .if1 .left), le-ltb (l + 1) 7 h)
+    let h : levelCount ≤ l + 1 = omega arith in
+    rw (le-leb 1 l (c .before .if1 .left), le-ltb (l + 1) levelCount h)
 
 mul-result : tie.Need-mul-result
 mul-result c = search needs
@@ -50,8 +50,8 @@ returns-3 : tie.Need-returns-3
 unfolding limitOf full
 returns-3 c =
     let l = c .before .before .args .level in
-    let h : l + 1 < 7 = omega arith in
-    rw (le-leb 1 l (c .before .if1 .left), lt-ltb (l + 1) 7 h) (table (l - 1) (omega arith))
+    let h : l + 1 < levelCount = omega arith in
+    rw (le-leb 1 l (c .before .if1 .left), lt-ltb (l + 1) levelCount h) (table (l - 1) (omega arith))
 
 pub byte-limit-spec : {M : Type 1} → statement M
 byte-limit-spec = tie.close (tie.spec returns returns-2 mul-result array-read-result returns-3)

@@ -6,12 +6,14 @@ use mathlib.Core.Logic.{⊎-elim}
 use native.Mathlib.Omega.{arith}
 use borrow.Author.Needs.{needs}
 use lib.ListN.{length, getD}
+use Rattle.model.specs.File.{maxFiles}
 use Rattle.model.specs.Key.{before}
 use Rattle.model.specs.Range.{lowKey, highKey}
 use Rattle.model.specs.RangeLaws.{smallestOf, largestOf}
 use Rattle.keys.specs.Key.{keyOf, keyRecord}
 use Rattle.records.specs.Run.{run, endsOf}
-use Rattle.records.specs.RecordLaws.{past, run-room, low-turn, low-ended, low-first, high-turn, high-ended, high-first, ends-none}
+use Rattle.records.specs.RecordLaws.{run-room, low-turn, low-ended, low-first, high-turn, high-ended, high-first, ends-none}
+use Rattle.records.specs.Record.{past}
 use Rattle.records.proofs.get_range.Statement.{statement}
 use Rattle.records.proofs.get_range.Tie as tie
 
@@ -61,11 +63,11 @@ blank-key-requires-2 c κs = search needs
 returns : tie.Need-returns Inv-loop μ-loop
 returns c =
     let s = c .before .before .before .before in
-    let q : length (s .args .t1) ≡ 256 = search needs in
+    let q : length (s .args .t1) ≡ maxFiles = search needs in
     let r = c .before .before .before in
     let none = ends-none (s .args .from) (r .within .result) (s .args .t1) (omega arith) in
     let same : run (s .args .from) (r .within .result) (s .args .t1) ≡ run (s .args .from) (s .args .to) (s .args .t1) =
-    rw (r .within .ensures) (run-room (s .args .from) (s .args .to) (s .args .t1) 256 q) in
+    rw (r .within .ensures) (run-room (s .args .from) (s .args .to) (s .args .t1) maxFiles q) in
     cc (c .before .blank-key .ensures, c .blank-key2 .ensures, none, ap endsOf same)
 
 mul-first : tie.Need-mul-first Inv-loop μ-loop
@@ -81,9 +83,9 @@ loop-holds : tie.Need-loop-holds Inv-loop μ-loop
 loop-holds c =
     let s = c .before .before .before .before .before in
     let end = c .before .before .before .before .within .result in
-    let q : length (s .args .t1) ≡ 256 = search needs in
+    let q : length (s .args .t1) ≡ maxFiles = search needs in
     let same : run (s .args .from) end (s .args .t1) ≡ run (s .args .from) (s .args .to) (s .args .t1) =
-    rw (c .before .before .before .before .within .ensures) (run-room (s .args .from) (s .args .to) (s .args .t1) 256 q) in (
+    rw (c .before .before .before .before .within .ensures) (run-room (s .args .from) (s .args .to) (s .args .t1) maxFiles q) in (
       sym (low-first (s .args .from) end (s .args .t1) (omega arith) (omega arith)) ∙ ap lowKey same,
       sym (high-first (s .args .from) end (s .args .t1) (omega arith) (omega arith)) ∙ ap highKey same,
     )
@@ -111,7 +113,7 @@ loop-again c =
     let l = c .before .before .before .before .before .before .before .before in
     let s = l .before .before .before .before .before .before in
     let end = l .before .before .before .before .before .within .result in
-    let q : length (s .args .t1) ≡ 256 = search needs in (
+    let q : length (s .args .t1) ≡ maxFiles = search needs in (
       rw (lower (c .before .before .before)) (sym (low-turn (l .loop .i) end (s .args .t1) (keyOf (l .loop .low)) (omega arith) (omega arith)) ∙ l .loop .inv .0),
       rw (higher c) (sym (high-turn (l .loop .i) end (s .args .t1) (keyOf (l .loop .high)) (omega arith) (omega arith)) ∙ l .loop .inv .1),
     )

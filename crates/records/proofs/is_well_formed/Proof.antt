@@ -14,8 +14,7 @@ use Rattle.keys.specs.declared.Key.{Key}
 use Rattle.keys.specs.Key.{keyOf, soundKey}
 use Rattle.keys.specs.KeyLaws.{sound-front, whole-is}
 use Rattle.records.specs.declared.FileRecord.{FileRecord}
-use Rattle.records.specs.Record.{soundRecord, wellRecord, fileOf}
-use Rattle.records.specs.RecordLaws.{Shaped}
+use Rattle.records.specs.Record.{soundRecord, wellRecord, fileOf, Shaped}
 use Rattle.records.proofs.Shape.{shapes}
 use Rattle.records.proofs.is_well_formed.Statement.{statement}
 use Rattle.records.proofs.is_well_formed.Tie as tie
@@ -130,22 +129,20 @@ rest c =
     rw (well (start d .args .r), low-whole (past-low (d .before)), high-whole d, sym (order (c .before)) ∙ c .if3 .left)
 
 returns-4 : tie.Need-returns-4
-unfolding maxSize
 returns-4 c =
     let e = c .before .before in
     let r = start (lent (e .before .before)) .args .r in
-    rw (rest e, lt-leb (r .size) 1099511627776 (omega arith))
+    rw (rest e, lt-leb (r .size) maxSize (omega arith))
 
 allowed-seeks-requires : tie.Need-allowed-seeks-requires
 allowed-seeks-requires c κs = search needs
 
 returns-5 : tie.Need-returns-5
-unfolding maxSize
 returns-5 c =
     let f = c .before .before in
     let e = f .before .before in
     let r = start (lent (e .before .before)) .args .r in
-    rw (rest e, le-leb (r .size) 1099511627776 (omega arith), ← c .before .allowed-seeks .ensures)
+    rw (rest e, le-leb (r .size) maxSize (omega arith), ← c .before .allowed-seeks .ensures)
 
 pub is-well-formed-spec : {M : Type 1} → statement M
 is-well-formed-spec = tie.close (tie.spec is-whole-requires returns is-whole-requires-2 returns-2 precedes-requires returns-3 returns-4 allowed-seeks-requires returns-5)

@@ -1,4 +1,4 @@
--- `records::numbers_of` meets its contract. The loop's invariant: the numbers from i on laid down from n on give the whole answer. Assumes nothing.
+-- `records::numbers_of` meets its contract. The loop's invariant: writing the numbers from i on at place n gives the whole answer. Assumes nothing.
 use Prim.Native.Nat.{_-_, _+_, _≤_}
 use mathlib.Core.Path.{_≡_, refl, sym, _∙_, ap}
 use mathlib.Core.List.{List, []}
@@ -6,14 +6,15 @@ use native.Mathlib.Omega.{arith}
 use borrow.Author.Needs.{needs}
 use lib.ListN.{length, getD, set, replicate, length-set}
 use Rattle.lemmas.specs.Slices.{put, put-cons, put-nil}
-use Rattle.model.specs.File.{File, numbers}
+use Rattle.model.specs.File.{File, numbers, maxFiles}
 use Rattle.records.specs.Run.{run}
-use Rattle.records.specs.RecordLaws.{past, run-room, numbers-turn, numbers-ended}
+use Rattle.records.specs.RecordLaws.{run-room, numbers-turn, numbers-ended}
+use Rattle.records.specs.Record.{past}
 use Rattle.records.proofs.numbers_of.Statement.{statement}
 use Rattle.records.proofs.numbers_of.Tie as tie
 
 abbrev Inv-loop : tie.InvT-loop
-Inv-loop from to files end out₀ n₀ i₀ out n i = (n ≤ i) × (length out ≡ 256) × (put out n (numbers (run i end files)) ≡ put (replicate 256 0) 0 (numbers (run from to files)))
+Inv-loop from to files end out₀ n₀ i₀ out n i = (n ≤ i) × (length out ≡ maxFiles) × (put out n (numbers (run i end files)) ≡ put (replicate maxFiles 0) 0 (numbers (run from to files)))
 
 abbrev μ-loop : tie.MeasureT-loop
 μ-loop from to files end out₀ n₀ i₀ out n i = end - i
@@ -24,10 +25,10 @@ within-requires c κs = search needs
 loop-holds : tie.Need-loop-holds Inv-loop μ-loop
 loop-holds c =
     let s = c .before in
-    let q : length (s .args .t1) ≡ 256 = search needs in
+    let q : length (s .args .t1) ≡ maxFiles = search needs in
     let r : run (s .args .from) (c .within .result) (s .args .t1) ≡ run (s .args .from) (s .args .to) (s .args .t1) =
-    rw (c .within .ensures) (run-room (s .args .from) (s .args .to) (s .args .t1) 256 q) in
-    (omega arith, refl, ap (λ (fs : List File). put (replicate 256 0) 0 (numbers fs)) r)
+    rw (c .within .ensures) (run-room (s .args .from) (s .args .to) (s .args .t1) maxFiles q) in
+    (omega arith, refl, ap (λ (fs : List File). put (replicate maxFiles 0) 0 (numbers fs)) r)
 
 mul-f : tie.Need-mul-f Inv-loop μ-loop
 mul-f c = omega arith
@@ -58,7 +59,7 @@ loop-again c =
     let i = l .loop .i in
     let out = l .loop .out in
     let n = l .loop .n in
-    let q : length files ≡ 256 = search needs in
+    let q : length files ≡ maxFiles = search needs in
     let x = getD files i past .number .0 in
     let turn : put (set out n x) (n + 1) (numbers (run (i + 1) end files)) ≡ put out n (numbers (run i end files)) =
     put-cons out n x (numbers (run (i + 1) end files)) (omega arith) ∙ ap (put out n) (sym (numbers-turn i end files (omega arith) (omega arith))) in

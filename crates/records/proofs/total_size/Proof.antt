@@ -4,15 +4,16 @@ use mathlib.Core.Path.{_≡_, ap}
 use native.Mathlib.Omega.{arith}
 use borrow.Author.Needs.{needs}
 use lib.ListN.{length, getD}
-use Rattle.model.specs.File.{total}
+use Rattle.model.specs.File.{total, maxFiles, maxWord}
 use Rattle.records.specs.Run.{run}
-use Rattle.records.specs.RecordLaws.{past, run-room, total-turn, total-ended}
+use Rattle.records.specs.RecordLaws.{run-room, total-turn, total-ended}
+use Rattle.records.specs.Record.{past}
 use Rattle.records.proofs.total_size.Statement.{statement}
 use Rattle.records.proofs.total_size.Tie as tie
 
 abbrev Inv-loop : tie.InvT-loop
-Inv-loop from to files end s₀ i₀ s i = (s ≤ 18446744073709551615)
-    × (min (s + total (run i end files)) 18446744073709551615 ≡ min (total (run from to files)) 18446744073709551615)
+Inv-loop from to files end s₀ i₀ s i = (s ≤ maxWord)
+    × (min (s + total (run i end files)) maxWord ≡ min (total (run from to files)) maxWord)
 
 abbrev μ-loop : tie.MeasureT-loop
 μ-loop from to files end s₀ i₀ s i = end - i
@@ -22,7 +23,7 @@ step : (c : tie.In-loop Inv-loop μ-loop) → total (run (c .before .loop .i) (c
     ≡ getD (c .before .before .before .args .t1) (c .before .loop .i) past .size + total (run (c .before .loop .i + 1) (c .before .before .within .result) (c .before .before .before .args .t1))
 step c =
     let s = c .before .before .before in
-    let q : length (s .args .t1) ≡ 256 = search needs in
+    let q : length (s .args .t1) ≡ maxFiles = search needs in
     total-turn (c .before .loop .i) (c .before .before .within .result) (s .args .t1) (omega arith) (omega arith)
 
 within-requires : tie.Need-within-requires Inv-loop μ-loop
@@ -31,9 +32,9 @@ within-requires c κs = search needs
 loop-holds : tie.Need-loop-holds Inv-loop μ-loop
 loop-holds c =
     let s = c .before in
-    let q : length (s .args .t1) ≡ 256 = search needs in
+    let q : length (s .args .t1) ≡ maxFiles = search needs in
     let r : run (s .args .from) (c .within .result) (s .args .t1) ≡ run (s .args .from) (s .args .to) (s .args .t1) =
-    rw (c .within .ensures) (run-room (s .args .from) (s .args .to) (s .args .t1) 256 q) in
+    rw (c .within .ensures) (run-room (s .args .from) (s .args .to) (s .args .t1) maxFiles q) in
     (omega arith, omega (arith, ap total r))
 
 mul-x : tie.Need-mul-x Inv-loop μ-loop

@@ -9,16 +9,16 @@ use Rattle.shell.proofs.main.Statement.{statement}
 use Rattle.shell.proofs.main.Tie as tie
 
 abbrev Inv-loop2 : tie.InvT-loop2
-Inv-loop2 m₀ line₀ n₀ block turns got count i₀ m line n i = (i ≤ count) × (length line ≡ 65536)
+Inv-loop2 m₀ out₀ line₀ n₀ block turns got count i₀ m out line n i = (i ≤ count) × (length line ≡ 65536) × (length out ≡ 65536)
 
 abbrev μ-loop2 : tie.MeasureT-loop2
-μ-loop2 m₀ line₀ n₀ block turns got count i₀ m line n i = count - i
+μ-loop2 m₀ out₀ line₀ n₀ block turns got count i₀ m out line n i = count - i
 
 abbrev Inv-loop : tie.InvT-loop
-Inv-loop m₀ line₀ n₀ block₀ turns₀ m line n block turns = (length line ≡ 65536) × (length block ≡ 65536)
+Inv-loop m₀ out₀ line₀ n₀ block₀ turns₀ m out line n block turns = (length line ≡ 65536) × (length block ≡ 65536) × (length out ≡ 65536)
 
 abbrev μ-loop : tie.MeasureT-loop
-μ-loop m₀ line₀ n₀ block₀ turns₀ m line n block turns = turns
+μ-loop m₀ out₀ line₀ n₀ block₀ turns₀ m out line n block turns = turns
 
 fresh-requires : tie.Need-fresh-requires Inv-loop2 μ-loop2 Inv-loop μ-loop
 fresh-requires c κs = search needs
@@ -28,6 +28,9 @@ large-buffer-requires c κs = search needs
 
 large-buffer-requires-2 : tie.Need-large-buffer-requires-2 Inv-loop2 μ-loop2 Inv-loop μ-loop
 large-buffer-requires-2 c κs = search needs
+
+large-buffer-requires-3 : tie.Need-large-buffer-requires-3 Inv-loop2 μ-loop2 Inv-loop μ-loop
+large-buffer-requires-3 c κs = search needs
 
 loop-holds : tie.Need-loop-holds Inv-loop2 μ-loop2 Inv-loop μ-loop
 loop-holds c = search needs
@@ -44,11 +47,15 @@ slice-aggregate-count c = search needs
 count-requires : tie.Need-count-requires Inv-loop2 μ-loop2 Inv-loop μ-loop
 count-requires c κs = search needs
 
-slice-aggregate-turn : tie.Need-slice-aggregate-turn Inv-loop2 μ-loop2 Inv-loop μ-loop
-slice-aggregate-turn c = search needs
+slice-aggregate-take : tie.Need-slice-aggregate-take Inv-loop2 μ-loop2 Inv-loop μ-loop
+slice-aggregate-take c = search needs
 
-turn-requires : tie.Need-turn-requires Inv-loop2 μ-loop2 Inv-loop μ-loop
-turn-requires c κs = search needs
+slice-aggregate-take-2 :
+    tie.Need-slice-aggregate-take-2 Inv-loop2 μ-loop2 Inv-loop μ-loop
+slice-aggregate-take-2 c = search needs
+
+take-requires : tie.Need-take-requires Inv-loop2 μ-loop2 Inv-loop μ-loop
+take-requires c κs = search needs
 
 returns : tie.Need-returns Inv-loop2 μ-loop2 Inv-loop μ-loop
 returns c = search needs
@@ -62,11 +69,16 @@ loop2-holds c = search needs
 array-read-b : tie.Need-array-read-b Inv-loop2 μ-loop2 Inv-loop μ-loop
 array-read-b c = search needs
 
-slice-aggregate-turn-2 : tie.Need-slice-aggregate-turn-2 Inv-loop2 μ-loop2 Inv-loop μ-loop
-slice-aggregate-turn-2 c = search needs
+slice-aggregate-take-3 :
+    tie.Need-slice-aggregate-take-3 Inv-loop2 μ-loop2 Inv-loop μ-loop
+slice-aggregate-take-3 c = search needs
 
-turn-requires-2 : tie.Need-turn-requires-2 Inv-loop2 μ-loop2 Inv-loop μ-loop
-turn-requires-2 c κs = search needs
+slice-aggregate-take-4 :
+    tie.Need-slice-aggregate-take-4 Inv-loop2 μ-loop2 Inv-loop μ-loop
+slice-aggregate-take-4 c = search needs
+
+take-requires-2 : tie.Need-take-requires-2 Inv-loop2 μ-loop2 Inv-loop μ-loop
+take-requires-2 c κs = search needs
 
 slice-aggregate-push : tie.Need-slice-aggregate-push Inv-loop2 μ-loop2 Inv-loop μ-loop
 slice-aggregate-push c = search needs
@@ -81,11 +93,7 @@ loop2-less : tie.Need-loop2-less Inv-loop2 μ-loop2 Inv-loop μ-loop
 loop2-less c = search needs
 
 loop2-again : tie.Need-loop2-again Inv-loop2 μ-loop2 Inv-loop μ-loop
-loop2-again c =
-    ⊎-elim
-    (λ w. (omega arith, search (needs, w .1)))
-    (λ w. (omega arith, search (needs, w .1)))
-    (c .if3 .came)
+loop2-again c = ⊎-elim (λ w. (omega arith, search needs, search needs)) (λ w. (omega arith, search needs, search needs)) (c .if3 .came)
 
 sub-turns : tie.Need-sub-turns Inv-loop2 μ-loop2 Inv-loop μ-loop
 sub-turns c = search needs
@@ -110,19 +118,22 @@ main-spec =
     fresh-requires
     large-buffer-requires
     large-buffer-requires-2
+    large-buffer-requires-3
     loop-holds
     slice-aggregate-read
     read-requires
     slice-aggregate-count
     count-requires
-    slice-aggregate-turn
-    turn-requires
+    slice-aggregate-take
+    slice-aggregate-take-2
+    take-requires
     returns
     returns-2
     loop2-holds
     array-read-b
-    slice-aggregate-turn-2
-    turn-requires-2
+    slice-aggregate-take-3
+    slice-aggregate-take-4
+    take-requires-2
     slice-aggregate-push
     push-requires
     add-i

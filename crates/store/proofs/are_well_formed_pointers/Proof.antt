@@ -8,6 +8,7 @@ use lib.ListN.{length, getD, drop, drop-of-length-le}
 use Rattle.lemmas.specs.Lists.{all}
 use Rattle.lemmas.specs.Slices.{rest-cons}
 use Rattle.lemmas.specs.Loops.{all-here, all-later}
+use Rattle.model.specs.File.{levelCount}
 use Rattle.store.specs.Store.{wellPointer}
 use Rattle.store.specs.StoreLaws.{past}
 use Rattle.store.proofs.are_well_formed_pointers.Statement.{statement}
@@ -17,7 +18,7 @@ abbrev Inv-loop : tie.InvT-loop
 Inv-loop pointers i₀ i = all wellPointer (drop i pointers) ≡ all wellPointer pointers
 
 abbrev μ-loop : tie.MeasureT-loop
-μ-loop pointers i₀ i = 7 - i
+μ-loop pointers i₀ i = levelCount - i
 
 loop-holds : tie.Need-loop-holds Inv-loop μ-loop
 loop-holds c = refl
@@ -35,7 +36,7 @@ returns : tie.Need-returns Inv-loop μ-loop
 returns c =
     let l = c .before .before .before .before in
     let ps = l .before .args .t1 in
-    let q : length ps ≡ 7 = search needs in
+    let q : length ps ≡ levelCount = search needs in
     let r = c .before .is-well-formed-pointer in
     let t = sym (r .ensures) ∙ not-true (r .result) (c .if1 .taken) in
     sym (all-here wellPointer (drop (l .loop .i) ps) (drop (l .loop .i + 1) ps) (getD ps (l .loop .i) past) (rest-cons ps (l .loop .i) past (omega arith)) t) ∙ l .loop .inv
@@ -50,7 +51,7 @@ loop-again : tie.Need-loop-again Inv-loop μ-loop
 loop-again c =
     let l = c .before .before .before .before in
     let ps = l .before .args .t1 in
-    let q : length ps ≡ 7 = search needs in
+    let q : length ps ≡ levelCount = search needs in
     let r = c .before .is-well-formed-pointer in
     let t = sym (r .ensures) ∙ not-false (r .result) (c .if1 .left) in
     sym (all-later wellPointer (drop (l .loop .i) ps) (drop (l .loop .i + 1) ps) (getD ps (l .loop .i) past) (rest-cons ps (l .loop .i) past (omega arith)) t) ∙ l .loop .inv
@@ -60,7 +61,7 @@ unfolding all
 returns-2 c =
     let l = c .before in
     let ps = l .before .args .t1 in
-    let q : length ps ≡ 7 = search needs in
+    let q : length ps ≡ levelCount = search needs in
     let n : length ps ≤ l .loop .i = omega arith in
     rw (drop-of-length-le ps n) at (l .loop .inv)
 

@@ -3,7 +3,7 @@ use mathlib.Core.Path.{sym, _∙_}
 use mathlib.Core.Bool.{false}
 use borrow.Author.Needs.{needs}
 use lib.ListN.{replicate}
-use Rattle.model.specs.File.{full, fresh}
+use Rattle.model.specs.File.{full, fresh, levelCount}
 use Rattle.counters.specs.Counters.{countersRecord}
 use Rattle.levels.specs.Levels.{countsOf}
 use Rattle.levels.specs.LevelsLaws.{laid-none}
@@ -20,12 +20,12 @@ blanks-requires c κs = search needs
 returns : tie.Need-returns
 unfolding storeOf fresh full countsOf pointerRecord countersRecord
 returns c =
-    let files = c .blanks .ensures ∙ sym (laid-none 7) in
+    let files = c .blanks .ensures ∙ sym (laid-none levelCount) in
     let key = c .before .blank-key .ensures in
     λ i. record {
       files = files i;
-      counts = replicate 7 0;
-      pointers = replicate 7 (record { set = false; key = key i });
+      counts = replicate levelCount 0;
+      pointers = replicate levelCount (record { set = false; key = key i });
       counters = record { next = record { 0 = 2 }; manifest = record { 0 = 0 }; last = record { 0 = 0 }; log = record { 0 = 0 }; previous = record { 0 = 0 } };
     }
 

@@ -1,0 +1,4 @@
+pub mod Rounds
+pub mod RoundsLaws
+pub mod Turns
+pub mod TurnsLaws

@@ -1,4 +1,0 @@
-pub mod Search
-pub mod SearchLaws
-pub mod ChooseLaws
-pub mod PlacedLaws

@@ -1,7 +1,0 @@
-pub mod Starts
-pub mod Plans
-pub mod StartLaws
-pub mod OneLaws
-pub mod ChoiceLaws
-pub mod PickCallsLaws
-pub mod PlansLaws

@@ -1,4 +1,0 @@
-pub mod CallsLaws
-pub mod Found
-pub mod FoundLaws
-pub mod SettledLaws

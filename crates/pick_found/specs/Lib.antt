@@ -1,0 +1,4 @@
+pub mod CallsLaws
+pub mod FoundRun
+pub mod FoundLaws
+pub mod ContiguousLaws

@@ -1,0 +1,90 @@
+-- The file that a size pick starts with, as a place in a store's array, and the limit of a manual pick. Assumes nothing.
+use Prim.Native.Nat.{ℕ, zero, suc, _+_, _-_, min}
+use mathlib.Core.Bool.{Bool, cond, _&&_}
+use mathlib.Core.List.{List, [], _∷_}
+use mathlib.Core.Option.{Option, none, some, orElse}
+use lib.Dec.{ltb}
+use lib.ListN.{length, getD, take}
+use Rattle.lemmas.specs.Lists.{find, sum, upFrom}
+use Rattle.model.specs.File.{maxWord}
+use Rattle.model.specs.Key.{Key, before}
+use Rattle.records.specs.Record.{blank, past}
+use Rattle.records.specs.RecordLaws as record-laws
+use Rattle.records.specs.declared.FileRecord.{FileRecord}
+use Rattle.store.specs.declared.Store.{Store}
+use Rattle.store.specs.Store.{pointerOf}
+use Rattle.store.specs.StoreLaws.{past as pastPointer}
+use Rattle.pick_found.specs.declared.FoundRun.{FoundRun}
+use Rattle.pick_found.specs.FoundRun.{fileAt, startAt, endAt}
+use Rattle.bisect.specs.declared.Window.{Window}
+use Rattle.pick_plan.specs.declared.Started.{Started}
+use Rattle.pick_plan.specs.declared.Start.the-variants.{At, Nothing}
+
+-- one file found, by its place and its record
+unfoldable pub oneFound : ℕ → FileRecord → FoundRun
+oneFound i f = record { from = i; count = 1; ends = record { low = f .smallest; high = f .largest }; bytes = f .size }
+
+-- the byte limit of a manual pick's first inputs: none at level 0, M deeper
+unfoldable pub limitOf : ℕ → ℕ → ℕ
+limitOf m zero = maxWord
+limitOf m (suc l) = m
+
+-- no file to start with
+unfoldable pub noStart : Started
+noStart = record { start = Nothing; file = blank }
+
+-- a file to start with
+unfoldable pub startedAt : ℕ → FileRecord → Started
+startedAt i f = record { start = At i; file = f }
+
+-- the first search of a size pick: at level 0 by the range of its file, deeper for second inputs
+unfoldable pub searchOf : ℕ → ℕ
+searchOf zero = 0
+searchOf (suc l) = 1
+
+-- the first of a list of places, if any
+unfoldable pub firstPlace : List ℕ → Option ℕ
+firstPlace [] = none
+firstPlace (i ∷ ps) = some i
+
+-- the place of the first file of a run whose largest is after the pointer, or of the first file if there is no pointer or none is after it
+unfoldable pub startPlace : Option Key → ℕ → ℕ → List FileRecord → Option ℕ
+startPlace none from to files = firstPlace (upFrom from (min to (length files) - from))
+startPlace (some k) from to files =
+    let ps = upFrom from (min to (length files) - from) in
+    orElse (find (λ i. before k (fileAt files i .largest)) ps) (firstPlace ps)
+
+-- the same for a level of a store, by its pointer
+unfoldable pub startIn : Store → ℕ → Option ℕ
+startIn s n = startPlace (pointerOf (getD (s .pointers) n pastPointer)) (startAt s n) (endAt s n) (s .files)
+
+-- the file at a place, or none
+unfoldable pub fromPlace : Store → Option ℕ → Started
+fromPlace s none = noStart
+fromPlace s (some i) = startedAt i (getD (s .files) i past)
+
+-- the file that a size pick of a level starts with, or none if no work is due
+unfoldable pub startedIn : Store → ℕ → Bool → Started
+startedIn s n due = fromPlace s (cond due (startIn s n) none)
+
+-- ---- step by step
+-- the places of a level, or none if no work is due
+unfoldable pub placesOf : List ℕ → ℕ → Bool → Window
+placesOf counts l due = cond due (record { lo = sum (take l counts); hi = sum (take l counts) + getD counts l 0 }) (record { lo = 0; hi = 0 })
+
+-- the places that are left after the first is seen: none if its file is after the key
+unfoldable pub nearerBy : Window → Bool → Window
+nearerBy p b = cond b (record { lo = p .lo; hi = p .lo }) (record { lo = p .lo + 1; hi = p .hi })
+
+-- the place found, or n if none is
+unfoldable pub placeOr : ℕ → Option ℕ → ℕ
+placeOr n none = n
+placeOr n (some i) = i
+
+-- the first place whose file's largest is after a key, or the end of the places
+unfoldable pub firstAfter : Key → Window → List FileRecord → ℕ
+firstAfter k p files = placeOr (p .hi) (find (λ i. before k (fileAt files i .largest)) (upFrom (p .lo) (min (p .hi) (length files) - p .lo)))
+
+-- the place to start with: i if there is a pointer and i is one of the places, else the first. 0 if there are none
+unfoldable pub startAmong : Window → Bool → ℕ → ℕ
+startAmong p pointed i = cond (ltb (p .lo) (p .hi)) (cond (pointed && ltb i (p .hi)) i (p .lo)) 0

@@ -1,0 +1,171 @@
+-- Laws of one search of a pick: its places are a level's, or none past the last level, and its result takes the pick to the next search. Assumes nothing.
+use Prim.Native.Nat.{ℕ, _+_, _≤_, _<_}
+use mathlib.Core.Path.{_≡_, refl, sym, ap, subst, _∙_}
+use mathlib.Core.Bool.{Bool, true, false}
+use mathlib.Core.Logic.{_⊎_, inl, inr, ⊎-elim}
+use mathlib.Core.List.{List, [], map}
+use native.Mathlib.Omega.{arith}
+use lib.Dec.{ltb}
+use borrow.Author.Tests.{lt-ltb, le-ltb, ltb-true, ltb-false, eqb-true, eqb-false}
+use lib.ListN.{length, getD, length-map, List·getD-eq-default}
+use Rattle.lemmas.specs.Lists.{keep, sum}
+use Rattle.lemmas.specs.Slices.{parts, length-parts}
+use Rattle.model.specs.File.{File, level, levelCount, maxFiles}
+use Rattle.model.specs.Pick.{upTo}
+use Rattle.model.specs.Range.{Range, overlaps, overlapping, widen}
+use Rattle.records.specs.Record.{fileOf}
+use Rattle.records.specs.RecordLaws.{run-ended, total-ended}
+use Rattle.records.specs.Run.{run}
+use Rattle.records.specs.declared.FileRecord.{FileRecord}
+use Rattle.levels.specs.Levels.{levelsOf}
+use Rattle.counters.specs.declared.Counters.{Counters}
+use Rattle.store.specs.declared.Pointer.{Pointer}
+use Rattle.store.specs.declared.Store.{Store}
+use Rattle.store.specs.Store.{stateOf, wellStore}
+use Rattle.pick_range.specs.Ranges.{spanOf}
+use Rattle.pick_found.specs.declared.FoundRun.{FoundRun}
+use Rattle.pick_found.specs.FoundRun.{startAt, endAt, inputsOf, Contiguous, Gathered, Known}
+use Rattle.pick_found.specs.FoundLaws.{level-known, overlapping-first, overlapping-deeper}
+use Rattle.pick_found.specs.ContiguousLaws.{contiguous-deeper, contiguous-widened}
+use Rattle.pick_found.specs.CallsLaws.{level-run, level-ends}
+use Rattle.pick_search.specs.declared.Choice.{Choice}
+use Rattle.pick_search.specs.declared.Question.{Question}
+use Rattle.pick_search.specs.Choice.{askedLevel, askedSpan, askedMost, questionOf, filledWith, firsts, SearchInvariant, Widest, Finds}
+use Rattle.pick_search.specs.InvariantLaws.{invariant-next, filled-level, filled-maximum}
+
+-- ---- the places of a search
+module _ (s : Store) (c : Choice) (k : ℕ) where
+  -- its level
+  abbrev n : ℕ
+  n = askedLevel (c .level) k
+
+  -- its range
+  abbrev r : Range
+  r = spanOf (askedSpan c k)
+
+  -- its question
+  abbrev a : Question
+  a = questionOf c k (s .counts)
+
+  -- its places start with the level
+  from-level : n < levelCount → a .from ≡ startAt s n
+  unfolding questionOf
+  from-level l = rw (lt-ltb n levelCount l)
+
+  -- they end with the level
+  to-level : n < levelCount → a .to ≡ endAt s n
+  unfolding questionOf
+  to-level l = rw (lt-ltb n levelCount l)
+
+  -- its limit is the pick's
+  most : a .most ≡ askedMost c k
+  unfolding questionOf
+  most = refl
+
+  -- past the last level it starts at 0
+  from-past : levelCount ≤ n → a .from ≡ 0
+  unfolding questionOf
+  from-past l = rw (le-ltb n levelCount l)
+
+  -- its places are within the room
+  pub asked-ends : sum (s .counts) ≤ maxFiles → a .to ≤ maxFiles
+  unfolding questionOf
+  asked-ends h = go (ltb n levelCount) refl
+    where
+      go : (t : Bool) → ltb n levelCount ≡ t → a .to ≤ maxFiles
+      go true t = rw t (omega (arith, level-ends s n))
+      go false t = rw t (omega (arith, level-ends s n))
+
+  module _ (p : length (s .counts) ≡ levelCount) where
+    -- past the last level it has no places
+    to-past : levelCount ≤ n → a .to ≡ 0
+    unfolding questionOf
+    to-past l = let none : getD (s .counts) n 0 ≡ 0 = List·getD-eq-default (s .counts) 0 (omega arith) in rw (le-ltb n levelCount l) (omega arith)
+
+    -- past the last level there are no files
+    level-past : levelCount ≤ n → level (stateOf s) n ≡ []
+    unfolding level stateOf levelsOf
+    level-past l =
+        List·getD-eq-default (levelsOf (s .files) (s .counts)) [] (omega (arith, length-map (parts (s .files) (s .counts)) (map fileOf), length-parts (s .files) (s .counts)))
+
+    -- its files are the level's
+    is-level : n < levelCount → run (a .from) (a .to) (s .files) ≡ level (stateOf s) n
+    is-level l = rw (from-level l, to-level l) (sym (level-run s n (omega arith)))
+
+    -- at level 0 its range is the least widening, deeper the range itself
+    wide-level : n < levelCount → (w : Range) → Widest a (s .files) w → ((n ≡ 0) × (w ≡ widen (level (stateOf s) n) r)) ⊎ ((n ≡ 0 → ⊥) × (w ≡ r))
+    unfolding questionOf
+    wide-level l w =
+        ⊎-elim (λ x. inl (eqb-true n 0 (x .0), x .1 ∙ ap (λ (fs : List File). widen fs r) (is-level l))) (λ x. inr (eqb-false n 0 (x .0), x .1))
+
+    module _ (h : wellStore s ≡ true) (q : length (s .files) ≡ maxFiles) (w : Range) (v : Widest a (s .files) w) where
+      -- the files that overlap stand side by side
+      pub asked-contiguous : Contiguous (s .files) (a .from) (a .to) w
+      asked-contiguous = go (ltb n levelCount) refl
+        where
+          go : (t : Bool) → ltb n levelCount ≡ t → Contiguous (s .files) (a .from) (a .to) w
+          go true t =
+              let l = ltb-true n levelCount t in
+              let to : Range → Type 0 = λ r. Contiguous (s .files) (startAt s n) (endAt s n) r in
+              rw (from-level l, to-level l)
+              (⊎-elim (λ x. subst to (sym (x .1)) (contiguous-widened s n h l q p r)) (λ x. subst to (sym (x .1)) (contiguous-deeper s n h l q p (x .0) r)) (wide-level l w v))
+          go false t =
+              let l = ltb-false n levelCount t in
+              let none = total-ended 0 0 (s .files) (omega arith) in
+              rw (from-past l, to-past l)
+              record { within = omega arith; room = omega arith; small = omega arith; none-before = λ i j x y z. absurd (omega arith); all-after = λ i j x y z. absurd (omega arith) }
+
+      -- the files found are the overlapping files of the level, up to the limit
+      pub asked-found : (f : FoundRun) → Finds a (s .files) w f → Known s n f × (inputsOf s f ≡ upTo (askedMost c k) 0 (overlapping n (level (stateOf s) n) r))
+      unfolding inputsOf keep upTo
+      asked-found f g = go (ltb n levelCount) refl
+        where
+          go : (t : Bool) → ltb n levelCount ≡ t → Known s n f × (inputsOf s f ≡ upTo (askedMost c k) 0 (overlapping n (level (stateOf s) n) r))
+          go true t =
+              let l = ltb-true n levelCount t in
+              let fs = level (stateOf s) n in
+              let over : keep (overlaps w) fs ≡ overlapping n fs r =
+              ⊎-elim (λ x. overlapping-first n fs r w (x .0) (x .1)) (λ x. ap (λ (x : Range). keep (overlaps x) fs) (x .1) ∙ overlapping-deeper n fs r (x .0)) (wide-level l w v) in
+              let found : Gathered (s .files) (startAt s n) (endAt s n) f = rw (from-level l, to-level l) at (g .0) in
+              (level-known s n f found, g .1 ∙ ap (λ (gs : List File). upTo (a .most) 0 (keep (overlaps w) gs)) (is-level l) ∙ rw most (ap (upTo (askedMost c k) 0) over))
+          go false t =
+              let l = ltb-false n levelCount t in
+              let fs = level (stateOf s) n in
+              let starts = from-past l in
+              let ends = to-past l in
+              let fits = g .0 .fits in
+              let over : overlapping n fs r ≡ [] = sym (overlapping-deeper n fs r (λ z. omega arith)) ∙ ap (keep (overlaps r)) (level-past l) in (
+                record { held = record { few = omega arith; below = omega arith }; sums = g .0 .sums },
+                g .1 ∙ ap (λ (gs : List File). upTo (a .most) 0 (keep (overlaps w) gs)) (run-ended (a .from) (a .to) (s .files) (omega arith)) ∙ sym (ap (upTo (askedMost c k) 0) over),
+              )
+
+-- ---- from one search to the next
+-- a store with these files, counts, pointers and counters
+abbrev pub storeWith : List FileRecord → List ℕ → List Pointer → Counters → Store
+storeWith files counts ps t = record { files = files; counts = counts; pointers = ps; counters = t }
+
+-- the pick started at c and has reached its k-th search at d. In any well-formed store with these files the invariant holds at d if it held at c
+pub record Goes (files : List FileRecord) (counts : List ℕ) (start end : ℕ) (c : Choice) (k : ℕ) (d : Choice) : Type 0 where
+  pub order : k ≤ end
+  pub level : d .level ≡ c .level
+  pub maximum : d .maximum ≡ c .maximum
+  pub stands : (ps : List Pointer) (t : Counters) → wellStore (storeWith files counts ps t) ≡ true
+      → SearchInvariant (storeWith files counts ps t) (firsts (storeWith files counts ps t) start c) start c
+      → SearchInvariant (storeWith files counts ps t) (firsts (storeWith files counts ps t) start c) k d
+
+-- the k-th search takes the pick to the next
+pub goes-next : (files : List FileRecord) (counts : List ℕ) (start end : ℕ) (c : Choice) (k : ℕ) (d : Choice) → length files ≡ maxFiles → length counts ≡ levelCount → end ≤ 5 → c .level < levelCount
+    → Goes files counts start end c k d → k < end → (w : Range) → Widest (questionOf d k counts) files w → (f : FoundRun) → Finds (questionOf d k counts) files w f
+    → (e : Choice) → e ≡ filledWith d k f → Goes files counts start end c (k + 1) e
+goes-next files counts start end c k d q p last few g h w v f b e is =
+    let same = g .level in
+    rw is
+    record {
+      order = omega arith;
+      level = filled-level d k f ∙ g .level;
+      maximum = filled-maximum d k f ∙ g .maximum;
+      stands = λ ps t well z.
+          let s = storeWith files counts ps t in
+          let found = asked-found s d k p well q w v f b in
+          invariant-next s well q p (firsts s start c) k d (omega arith) (omega arith) (g .stands ps t well z) f (found .0) (found .1);
+    }

@@ -1,0 +1,10 @@
+pub mod Choice
+pub mod InvariantLaws
+pub mod AskedLaws
+pub mod LaidLaws
+pub mod HeldLaws
+pub mod CompleteLaws
+pub mod Search
+pub mod SearchLaws
+pub mod ChooseLaws
+pub mod PlacedLaws

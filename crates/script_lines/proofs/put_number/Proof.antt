@@ -1,0 +1,38 @@
+-- `script_lines::put_number` meets its contract. The digits are the kit's. Assumes nothing.
+use native.Mathlib.Omega.{arith}
+use borrow.Author.Needs.{needs}
+use Rattle.script_lines.specs.LineLaws.{decimal-is}
+use Rattle.script_lines.proofs.put_number.Statement.{statement}
+use Rattle.script_lines.proofs.put_number.Tie as tie
+
+decimal-requires : tie.Need-decimal-requires
+decimal-requires c κs = search needs
+
+array-share-prefix-digits : tie.Need-array-share-prefix-digits
+array-share-prefix-digits c = search needs
+
+slice-aggregate-put : tie.Need-slice-aggregate-put
+slice-aggregate-put c = search needs
+
+put-requires : tie.Need-put-requires
+put-requires c κs = search needs
+
+same-length : tie.Need-same-length
+same-length c = search needs
+
+returns : tie.Need-returns
+returns c =
+    let d = c .before .before .before .before .before .decimal in
+    let n = c .before .before .before .before .before .before .before .before .args .n in
+    rw (← decimal-is (d .result) n (d .ensures .1 .0) (omega arith), ← d .ensures .1 .1) (c .before .before .put .ensures)
+
+pub put-number-spec : {M : Type 1} → statement M
+put-number-spec =
+    tie.close
+    (tie.spec
+    decimal-requires
+    array-share-prefix-digits
+    slice-aggregate-put
+    put-requires
+    same-length
+    returns)

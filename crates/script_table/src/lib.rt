@@ -1,0 +1,597 @@
+// The table of the script's commands: which one a line is, what its words have to be, which word is not what it should be, and help.
+ghost use mathlib.Core.Path.{_≡_};
+ghost use mathlib.Core.Bool.{cond};
+ghost use Prim.Native.Nat.{_≤_, _+_};
+ghost use lib.ListN.{length};
+ghost use lib.Dec.{ltb};
+ghost use Rattle.script_lines.specs.Lines.{Laid};
+ghost use Rattle.script_words.specs.Words.{wordOf};
+ghost use Rattle.script_table.specs.Faults.{counterName, bytesWord, ofNumbers, fitsOther, fits, Named};
+use script_parts::Parts;
+
+// The commands, one line each: the name; the group of the command, and which of the group it is; the kinds of its words; how the words are written, and what it answers.
+// A kind with `*` after it stands for any number of words, one with `?` for one word or none; `.` is no word.
+const COMMANDS: [u8; 1756] =
+    *b"new mn . -> ok: a fresh store, no pick, fresh memories; the maximum file size stays\n\
+maxsize mm M M -> ok: the maximum file size that pick and range pass on, 2097152 at first\n\
+echo pe T* TEXT -> TEXT\n\
+cmp pc KK IKEY IKEY -> <, = or >\n\
+parse pp K IKEY -> type=. seq=. user=HEX\n\
+edit ce I* ITEM.. -> ok; an ITEM is p,L,IKEY or d,L,N or a,L,N,SIZE,SMALLEST,LARGEST or l,N\n\
+files af L L -> num,size,smallest,largest,seeks of each file, in list order\n\
+bytes ab L L -> COUNT BYTES of the level\n\
+ptrs ap . -> seven keys in hex, or -\n\
+counters ac . -> next=. manifest=. seq=. log=. prev=.\n\
+score as . -> level=. bits=. needs=.: the 16 hex digits of the f64, and 0 or 1\n\
+pick kp . -> level=. cause=size in0=. in1=. gp=. manual=0 trivial=. ptr=HEX edel=L:N,..; the pick is kept for stop and base\n\
+range kr LKK L IKEY IKEY -> as pick, with cause=manual and manual=1\n\
+stop fs K* IKEY.. -> of the last pick: y or n, and :PLACE:COUNT:SEEN, for each key, up to the first refusal\n\
+base fb U* UKEY.. -> of the last pick's level: y or n for each key, up to the first refusal\n\
+overlap qo LKK L IKEY IKEY -> file numbers in level order\n\
+inlevel qi LUU L UKEY UKEY -> 0 or 1\n\
+lookup qu K IKEY -> seven lists of file numbers\n\
+find qn LK L IKEY -> the index of the first file whose largest is not before the key, or none\n\
+mem qm UU UKEY UKEY -> the level of a memory table\n\
+live al . -> file numbers, rising\n\
+newnum cn . -> the number handed out\n\
+reuse cr N N -> next=.\n\
+mark cm N N -> next=.\n\
+set cs CN manifest/seq/prev N -> ok\n\
+getrange ag L L -> the smallest and the largest key of the level's files, or none\n\
+snapshot ax . -> the snapshot's bytes in hex\n\
+load cl H HEX -> ok: the store is what the bytes hold\n\
+help ph T? or help NAME -> the commands' names; how that one is written and what it answers\n";
+
+// The items of an edit, one line each, as the commands are.
+const ITEMS: [u8; 34] = *b"p ip LK\n\
+d id LN\n\
+a ia LNSKK\n\
+l il N\n";
+
+// What a word of each kind has to be.
+const KINDS: [u8; 477] = *b"L a level, 0 to 18446744073709551615\n\
+N a number, 0 to 18446744073709551615\n\
+S a size, 0 to 18446744073709551615\n\
+M a maximum file size, 0 to 18446744073709551615\n\
+K an internal key: text@SEQ, text@SEQd, hex digits or -\n\
+U a user key: =text, hex digits or -\n\
+H bytes: hex digits, two each, or -\n\
+C a counter: manifest, seq or prev\n\
+W a command's name\n\
+Y p, d, a or l: see help edit\n\
+E the end of the line\n\
+F the end of the item\n\
+X see help\n\
+P after pick or range only\n\
+Z 65536 bytes at most\n";
+
+// What is wrong with a line: the word, or the part of an item, counted from 1, the kind that is wanted there, and the run of the line that stands there. Kind 0: nothing is wrong; part 0: a
+// word.
+pub struct Fault {
+    pub kind: u8,
+    pub word: usize,
+    pub part: usize,
+    pub from: usize,
+    pub to: usize,
+}
+
+// Which command a line is, and what is wrong with it.
+pub struct Reading {
+    pub group: u8,
+    pub which: u8,
+    pub fault: Fault,
+}
+
+// An entry of a table: whether there is one, and the run of what follows its name.
+struct Entry {
+    found: bool,
+    from: usize,
+    to: usize,
+}
+
+// The longest word that a fault shows whole.
+const SHOWN: usize = 40;
+
+// ---- entries of a table
+
+// The place so many bytes after another; the other where the machine does not count so far.
+fn ahead(at: usize, n: usize) -> usize {
+    if at < 1000000 {
+        if n < 1000000 {
+            return at + n;
+        }
+    }
+    at
+}
+
+// The entry of a table whose name is this word.
+fn entry_of(table: &[u8], word: &[u8]) -> Entry {
+    let n = table.len();
+    let mut at: usize = 0;
+    while at < n {
+        let end = script_words::place_of(table, at, n, b'\n');
+        let name = script_words::place_of(table, at, end, b' ');
+        if script_words::is_word(table, at, name, word) {
+            return Entry {
+                found: true,
+                from: name,
+                to: end,
+            };
+        }
+        if n <= end {
+            return no_entry();
+        }
+        at = end + 1;
+    }
+    no_entry()
+}
+
+// No entry.
+fn no_entry() -> Entry {
+    Entry {
+        found: false,
+        from: 0,
+        to: 0,
+    }
+}
+
+// The entry of a table whose name is a run of a line.
+fn entry_at(table: &[u8], line: &[u8], from: usize, to: usize) -> Entry {
+    if line.len() < to {
+        return no_entry();
+    }
+    if to < from {
+        return no_entry();
+    }
+    entry_of(table, &line[from..to])
+}
+
+// The kind that a table wants at a place: a letter, or another where no word is wanted any more.
+fn wanted(table: &[u8], k: usize, end: u8) -> u8 {
+    let b = script_words::byte_at(table, k);
+    if b < b'A' {
+        return end;
+    }
+    if b'Z' < b {
+        return end;
+    }
+    b
+}
+
+// The place of the kind after one: the same place where any number of words may stand.
+fn next_kind(table: &[u8], k: usize) -> usize {
+    let b = script_words::byte_at(table, ahead(k, 1));
+    if b == b'*' {
+        return k;
+    }
+    if b == b'?' {
+        return ahead(k, 2);
+    }
+    ahead(k, 1)
+}
+
+// Whether the words may end before the kind at a place.
+fn may_end(table: &[u8], k: usize) -> bool {
+    let b = script_words::byte_at(table, ahead(k, 1));
+    (wanted(table, k, 0) == 0) | (b == b'*') | (b == b'?')
+}
+
+// ---- kinds of words
+
+// Whether a word is hex digits, or `-` for no bytes.
+fn is_bytes(line: &[u8], from: usize, to: usize) -> bool
+    ensures { λ r. ⌜ r ≡ bytesWord (wordOf (now (line .entry)) from to) ⌝ }
+{
+    if script_words::is_word(line, from, to, b"-") {
+        return true;
+    }
+    script_words::is_hex(line, from, to)
+}
+
+// Whether a word is the name of a counter that may be set.
+fn is_counter(line: &[u8], from: usize, to: usize) -> bool
+    ensures { λ r. ⌜ r ≡ counterName (wordOf (now (line .entry)) from to) ⌝ }
+{
+    if script_words::is_word(line, from, to, b"manifest") {
+        return true;
+    }
+    if script_words::is_word(line, from, to, b"seq") {
+        return true;
+    }
+    script_words::is_word(line, from, to, b"prev")
+}
+
+// Whether a kind is one of numbers: a level, a number, a size, a maximum.
+fn is_of_numbers(kind: u8) -> bool
+    ensures { λ r. ⌜ r ≡ ofNumbers kind ⌝ }
+{
+    if kind == b'L' {
+        return true;
+    }
+    if kind == b'N' {
+        return true;
+    }
+    if kind == b'S' {
+        return true;
+    }
+    if kind == b'M' {
+        return true;
+    }
+    false
+}
+
+// Whether a word is of a kind that is neither one of keys nor one of numbers. Of two kinds every word is, of those that name an end none.
+fn is_of_other(line: &[u8], from: usize, to: usize, kind: u8) -> bool
+    ensures { λ r. ⌜ r ≡ fitsOther (wordOf (now (line .entry)) from to) kind ⌝ }
+{
+    if kind == b'H' {
+        return is_bytes(line, from, to);
+    }
+    if kind == b'C' {
+        return is_counter(line, from, to);
+    }
+    if kind == b'T' {
+        return true;
+    }
+    if kind == b'I' {
+        return true;
+    }
+    false
+}
+
+// Whether a word is of a kind.
+fn is_of_kind(line: &[u8], from: usize, to: usize, kind: u8) -> bool
+    ensures { λ r. ⌜ r ≡ fits (now (line .entry)) from to kind ⌝ }
+{
+    if kind == b'K' {
+        let k = script_words::internal_key(line, from, to);
+        return k.fine;
+    }
+    if kind == b'U' {
+        let u = script_words::user_key(line, from, to);
+        return u.fine;
+    }
+    if is_of_numbers(kind) {
+        let n = script_words::number(line, from, to);
+        return n.fine;
+    }
+    is_of_other(line, from, to, kind)
+}
+
+// ---- faults
+
+// Nothing is wrong.
+fn no_fault() -> Fault
+    ensures { λ r. ⌜ r .kind ≡ 0 ⌝ }
+{
+    Fault {
+        kind: 0,
+        word: 0,
+        part: 0,
+        from: 0,
+        to: 0,
+    }
+}
+
+// The first of the parts after one, which ends at a place, that is not of the kind that a table wants there.
+fn fault_of(table: &[u8], shape: usize, line: &[u8], p: Parts, first: usize, end: u8) -> Fault
+    ensures { λ r. ⌜ Named (now (line .entry)) r ⌝ }
+{
+    let n = p.to;
+    let mut at = first;
+    let mut k = shape;
+    let mut word: usize = 2;
+    while at < n {
+        let from = at + 1;
+        let to = script_parts::end_of(line, p, from);
+        let kind = wanted(table, k, end);
+        if is_of_kind(line, from, to, kind) {
+            k = next_kind(table, k);
+            word = ahead(word, 1);
+            at = to;
+        } else {
+            return Fault {
+                kind: kind,
+                word: word,
+                part: 0,
+                from: from,
+                to: to,
+            };
+        }
+    }
+    missing(table, k, line, n, word, end)
+}
+
+// A word that is wanted where the line ends already.
+fn missing(table: &[u8], k: usize, line: &[u8], n: usize, word: usize, end: u8) -> Fault
+    ensures { λ r. ⌜ Named (now (line .entry)) r ⌝ }
+{
+    let kind = wanted(table, k, end);
+    if may_end(table, k) {
+        return no_fault();
+    }
+    if is_of_kind(line, n, n, kind) {
+        return no_fault();
+    }
+    Fault {
+        kind: kind,
+        word: word,
+        part: 0,
+        from: n,
+        to: n,
+    }
+}
+
+// A fault of an item: its word is a part of that item.
+fn of_item(f: Fault, item: usize) -> Fault
+    ensures { λ r. ⌜ (r .kind ≡ f .kind) × (r .from ≡ f .from) × (r .to ≡ f .to) ⌝ }
+{
+    Fault {
+        kind: f.kind,
+        word: item,
+        part: f.word,
+        from: f.from,
+        to: f.to,
+    }
+}
+
+// What is wrong with one item of an edit.
+fn item_fault(line: &[u8], from: usize, to: usize, item: usize) -> Fault
+    ensures { λ r. ⌜ Named (now (line .entry)) r ⌝ }
+{
+    let items = ITEMS;
+    let p = Parts {
+        from: from,
+        to: to,
+        mark: b',',
+    };
+    let end = script_parts::end_of(line, p, from);
+    let e = entry_at(&items, line, from, end);
+    if !e.found {
+        return Fault {
+            kind: b'Y',
+            word: item,
+            part: 1,
+            from: from,
+            to: end,
+        };
+    }
+    of_item(fault_of(&items, ahead(e.from, 4), line, p, end, b'F'), item)
+}
+
+// What is wrong with the first bad item after the first word, which ends at a place.
+fn items_fault(line: &[u8], first: usize) -> Fault
+    ensures { λ r. ⌜ Named (now (line .entry)) r ⌝ }
+{
+    let n = line.len();
+    let mut at = first;
+    let mut item: usize = 1;
+    while at < n {
+        let from = at + 1;
+        let to = script_words::place_of(line, from, n, b' ');
+        let f = item_fault(line, from, to, item);
+        if f.kind != 0 {
+            return f;
+        }
+        item = ahead(item, 1);
+        at = to;
+    }
+    no_fault()
+}
+
+// What is wrong with the name that help is asked for, if any.
+fn name_fault(table: &[u8], line: &[u8], first: usize) -> Fault
+    ensures { λ r. ⌜ Named (now (line .entry)) r ⌝ }
+{
+    let n = line.len();
+    if n <= first {
+        return no_fault();
+    }
+    let e = entry_at(table, line, first + 1, n);
+    if e.found {
+        return no_fault();
+    }
+    Fault {
+        kind: b'W',
+        word: 2,
+        part: 0,
+        from: first + 1,
+        to: n,
+    }
+}
+
+// What is wrong with the words of a command of a group that the table does not say: the items of an edit, the name that help is asked for.
+fn deeper(table: &[u8], line: &[u8], first: usize, group: u8, which: u8) -> Fault
+    ensures { λ r. ⌜ Named (now (line .entry)) r ⌝ }
+{
+    if (group == b'c') & (which == b'e') {
+        return items_fault(line, first);
+    }
+    if (group == b'p') & (which == b'h') {
+        return name_fault(table, line, first);
+    }
+    no_fault()
+}
+
+// What is wrong with the words of a command, whose entry's name ends at a place of the table.
+fn words_fault(table: &[u8], name: usize, line: &[u8], first: usize, group: u8, which: u8) -> Fault
+    ensures { λ r. ⌜ Named (now (line .entry)) r ⌝ }
+{
+    let f = fault_of(
+        table,
+        ahead(name, 4),
+        line,
+        script_parts::words_of(line),
+        first,
+        b'E',
+    );
+    if f.kind != 0 {
+        return f;
+    }
+    deeper(table, line, first, group, which)
+}
+
+// Which command a line is, and the first word that is not what it should be: what it names is not of the kind that it names.
+pub fn read(line: &[u8]) -> Reading
+    ensures { λ r. ⌜ Named (now (line .entry)) (r .fault) ⌝ }
+{
+    let table = COMMANDS;
+    let first = script_words::place_of(line, 0, line.len(), b' ');
+    let e = entry_at(&table, line, 0, first);
+    if !e.found {
+        return Reading {
+            group: 0,
+            which: 0,
+            fault: Fault {
+                kind: b'X',
+                word: 1,
+                part: 0,
+                from: 0,
+                to: first,
+            },
+        };
+    }
+    let group = script_words::byte_at(&table, ahead(e.from, 1));
+    let which = script_words::byte_at(&table, ahead(e.from, 2));
+    let f = words_fault(&table, e.from, line, first, group, which);
+    Reading {
+        group: group,
+        which: which,
+        fault: f,
+    }
+}
+
+// ---- answers
+
+// A run of bytes.
+fn put_run(out: &mut [u8], start: usize, bytes: &[u8], from: usize, to: usize) -> usize {
+    let mut at = start;
+    let mut i = from;
+    while i < to {
+        at = script_lines::put_byte(out, at, script_words::byte_at(bytes, i));
+        i += 1;
+    }
+    at
+}
+
+// A byte that can be printed, `?` for another.
+fn printable(b: u8) -> u8 {
+    if b < b' ' {
+        return b'?';
+    }
+    if b'~' < b {
+        return b'?';
+    }
+    b
+}
+
+// A run of a line between quotes, as far as it is shown; two dots for the rest.
+fn put_shown(out: &mut [u8], start: usize, line: &[u8], from: usize, to: usize) -> usize {
+    let mut at = script_lines::put_byte(out, start, b'\'');
+    let mut shown: usize = 0;
+    let mut i = from;
+    while i < to {
+        if shown == SHOWN {
+            return script_lines::put(out, at, b"..'");
+        }
+        at = script_lines::put_byte(out, at, printable(script_words::byte_at(line, i)));
+        shown += 1;
+        i += 1;
+    }
+    script_lines::put_byte(out, at, b'\'')
+}
+
+// Where a fault is: a command, a word, or a part of an item.
+fn put_place(out: &mut [u8], at: usize, f: Fault) -> usize {
+    if f.part != 0 {
+        let mut to = script_lines::put(out, at, b"item ");
+        to = script_lines::put_number(out, to, f.word as u64);
+        to = script_lines::put(out, to, b" part ");
+        to = script_lines::put_number(out, to, f.part as u64);
+        return script_lines::put_byte(out, to, b' ');
+    }
+    if f.word < 2 {
+        return script_lines::put(out, at, b"command ");
+    }
+    let mut to = script_lines::put(out, at, b"word ");
+    to = script_lines::put_number(out, to, f.word as u64);
+    script_lines::put_byte(out, to, b' ')
+}
+
+// What a kind wants.
+fn put_kind(out: &mut [u8], start: usize, kind: u8) -> usize {
+    let table = KINDS;
+    let e = entry_of(&table, &[kind]);
+    let at = script_lines::put_byte(out, start, b':');
+    put_run(out, at, &table, e.from, e.to)
+}
+
+// The line that says what is wrong: `bad`, where, what stands there, and what is wanted.
+pub fn put_fault(out: &mut [u8], line: &[u8], f: Fault) -> usize
+    ensures { λ r. ⌜ r ≤ length (now (out .exit)) ⌝ }
+{
+    let mut at = script_lines::put(out, 0, b"bad ");
+    at = put_place(out, at, f);
+    at = put_shown(out, at, line, f.from, f.to);
+    at = put_kind(out, at, f.kind);
+    script_lines::within(out, at)
+}
+
+// The line that says that a line is too long to be taken.
+pub fn put_too_long(out: &mut [u8]) -> usize
+    ensures { λ r. ⌜ r ≤ length (now (out .exit)) ⌝ }
+{
+    let mut at = script_lines::put(out, 0, b"bad line");
+    at = put_kind(out, at, b'Z');
+    script_lines::within(out, at)
+}
+
+// The names of a table's entries, a blank between two.
+fn put_names(out: &mut [u8], table: &[u8]) -> usize {
+    let n = table.len();
+    let mut to: usize = 0;
+    let mut at: usize = 0;
+    while at < n {
+        let end = script_words::place_of(table, at, n, b'\n');
+        let name = script_words::place_of(table, at, end, b' ');
+        to = put_gap(out, to);
+        to = put_run(out, to, table, at, name);
+        if n <= end {
+            return to;
+        }
+        at = end + 1;
+    }
+    to
+}
+
+// A blank, unless the line begins here.
+fn put_gap(out: &mut [u8], at: usize) -> usize {
+    if at == 0 {
+        return at;
+    }
+    script_lines::put_byte(out, at, b' ')
+}
+
+// How a command is written and what it answers: the text of its entry after the kinds, behind its name.
+fn put_usage(out: &mut [u8], table: &[u8], line: &[u8], from: usize) -> usize {
+    let n = line.len();
+    let e = entry_at(table, line, from, n);
+    let text = script_words::place_of(table, ahead(e.from, 4), e.to, b' ');
+    let at = put_run(out, 0, line, from, n);
+    put_run(out, at, table, text, e.to)
+}
+
+// The answer of help: the commands' names, or how the one that is named is written and what it answers.
+pub fn put_help(out: &mut [u8], line: &[u8]) -> usize
+    ensures { λ r. ⌜ r ≤ length (now (out .exit)) ⌝ }
+{
+    let table = COMMANDS;
+    let n = line.len();
+    let first = script_words::place_of(line, 0, n, b' ');
+    if first < n {
+        let at = put_usage(out, &table, line, first + 1);
+        return script_lines::within(out, at);
+    }
+    let at = put_names(out, &table);
+    script_lines::within(out, at)
+}

@@ -1,0 +1,20 @@
+-- `shell_edit::loaded` meets its contract. Assumes nothing.
+use mathlib.Core.Path.{_≡_}
+use borrow.Author.Needs.{needs}
+use Rattle.shell_edit.proofs.loaded.Statement.{statement}
+use Rattle.shell_edit.proofs.loaded.Tie as tie
+
+enum-told : tie.Need-enum-told
+enum-told c = search needs
+
+enum-known-o : tie.Need-enum-known-o
+enum-known-o c = search needs
+
+returns : tie.Need-returns
+returns c = rw (c .enum-told .given .1)
+
+returns-2 : tie.Need-returns-2
+returns-2 c = rw (c .before .o .given .1)
+
+pub loaded-spec : {M : Type 1} → statement M
+loaded-spec = tie.close (tie.spec enum-told enum-known-o returns returns-2)

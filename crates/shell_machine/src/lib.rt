@@ -1,0 +1,148 @@
+// What a script works on, and the commands that change it. Each lays its answer in lent bytes, and hands back what it leaves.
+ghost use mathlib.Core.Path.{_≡_};
+ghost use mathlib.Core.Bool.{false};
+ghost use Prim.Native.Nat.{_≤_};
+ghost use lib.ListN.{length};
+ghost use Rattle.shell_edit.specs.Changes.{changedBy};
+ghost use Rattle.shell_pick.specs.Picking.{pickedBy};
+ghost use Rattle.shell_follow.specs.Following.{Stays};
+ghost use Rattle.shell_machine.specs.Machine.{Fresh, leftBy};
+use answers::Outcome;
+use pick_answer::Cause;
+use pick_answer::Pick;
+use pick_answer::Picked;
+use script_table::Fault;
+use shell_follow::Picks;
+use store::Store;
+
+// The store, the last pick with its memories, and where the answer of the last command ends.
+pub struct Machine {
+    pub store: Store,
+    pub picks: Picks,
+    pub at: usize,
+}
+
+// No pick.
+fn no_pick(maximum: u64) -> Picks
+    ensures { λ r. ⌜ (r .maximum ≡ maximum) × (r .has ≡ false) ⌝ }
+{
+    let files = records::blanks();
+    let cause = Cause::Manual;
+    let c = Picked {
+        level: 0,
+        cause: cause,
+        maximum: 0,
+        files: files,
+        first: 0,
+        second: 0,
+        grand: 0,
+    };
+    shell_follow::begun(maximum, false, c)
+}
+
+// A fresh store with no pick.
+pub fn fresh(maximum: u64) -> Machine
+    ensures { λ r. ⌜ Fresh maximum r ⌝ }
+{
+    let s = store::fresh_store();
+    let p = no_pick(maximum);
+    Machine {
+        store: s,
+        picks: p,
+        at: 0,
+    }
+}
+
+// Changes the store.
+pub fn change(out: &mut [u8], m: Machine, line: &[u8], which: u8) -> Machine
+    ensures { λ r. ⌜ (r .at ≤ length (now (out .exit))) × (r .store ≡ changedBy (m .store) (now (line .entry)) which .store) × (r .picks ≡ m .picks) ⌝ }
+{
+    let c = shell_edit::change(m.store, line, which);
+    let s = c.store;
+    let said = c.said;
+    let p = m.picks;
+    let end = shell_reply::put_said(out, said);
+    let at = script_lines::within(out, end);
+    Machine {
+        store: s,
+        picks: p,
+        at: at,
+    }
+}
+
+// What a pick leaves of the picks: on a refusal the one before it.
+fn left(p: Picks, r: Pick) -> Picks
+    ensures { λ x. ⌜ x ≡ leftBy p (r .picked) (r .outcome) ⌝ }
+{
+    let o = r.outcome;
+    let c = r.picked;
+    match o {
+        Outcome::Refused(n) => p,
+        Outcome::Done => shell_follow::begun(p.maximum, true, c),
+    }
+}
+
+// Picks what to compact.
+pub fn pick_next(out: &mut [u8], m: Machine, line: &[u8], which: u8) -> Machine
+    ensures { λ r. ⌜ (r .at ≤ length (now (out .exit))) × (r .store ≡ pickedBy (m .store) (m .picks .maximum) (now (line .entry)) which .store) ⌝ }
+{
+    let p = m.picks;
+    let r = shell_pick::picked(m.store, p.maximum, line, which);
+    let at = shell_pick::put_pick(out, r);
+    let s = r.store;
+    Machine {
+        store: s,
+        picks: left(p, r),
+        at: at,
+    }
+}
+
+// What is wrong with a command on the last pick where there is none.
+fn put_unpicked(out: &mut [u8], line: &[u8]) -> usize
+    ensures { λ r. ⌜ r ≤ length (now (out .exit)) ⌝ }
+{
+    let f = Fault {
+        kind: b'P',
+        word: 1,
+        part: 0,
+        from: 0,
+        to: 4,
+    };
+    script_table::put_fault(out, line, f)
+}
+
+// Answers a command on the last pick; where there is none, it is told so.
+pub fn follow(out: &mut [u8], m: Machine, line: &[u8], which: u8) -> Machine
+    ensures { λ r. ⌜ (r .at ≤ length (now (out .exit))) × (r .store ≡ m .store) × Stays (m .picks) (r .picks) ⌝ }
+{
+    let s = m.store;
+    let p = m.picks;
+    if p.has {
+        let r = shell_follow::follow(out, s, p, line, which);
+        let after = r.picks;
+        return Machine {
+            store: s,
+            picks: after,
+            at: r.at,
+        };
+    }
+    Machine {
+        store: s,
+        picks: p,
+        at: put_unpicked(out, line),
+    }
+}
+
+// Sets the maximum file size that picks take from here on.
+pub fn set_maximum(m: Machine, maximum: u64) -> Machine
+    ensures { λ r. ⌜ (r .store ≡ m .store) × (r .picks .maximum ≡ maximum) × (r .picks .has ≡ m .picks .has) × (r .picks .picked ≡ m .picks .picked) ⌝ }
+{
+    let s = m.store;
+    let mut p = m.picks;
+    p.maximum = maximum;
+    Machine {
+        store: s,
+        picks: p,
+        at: 0,
+    }
+}
