@@ -1,4 +1,4 @@
-// The edit that the items of a line are. A word that is no item adds what its parts read as; the shell has asked before that each is one.
+// The edit that the items of a line make. The shell has tested before that each word is an item. For any other word the functions still answer, by what its parts read as.
 ghost use mathlib.Core.Path.{_≡_};
 ghost use lib.ListN.{length};
 ghost use Rattle.script_edit.specs.Items.{deletionOf, pointingOf, additionOf, logOf, itemOf, editOfLine};
@@ -63,7 +63,7 @@ fn log(line: &[u8], p: Parts) -> NewLog
     NewLog::Becomes(FileNumber(n.value))
 }
 
-// The edit with the item of a run more, by its first byte.
+// The edit with one item more. The item's first byte says which kind it is.
 fn with_item(e: Edit, line: &[u8], from: usize, to: usize) -> Edit
     ensures { λ r. ⌜ r ≡ itemOf (now (line .entry)) e from to ⌝ }
 {
@@ -85,7 +85,7 @@ fn with_item(e: Edit, line: &[u8], from: usize, to: usize) -> Edit
     e.with_log(log(line, p))
 }
 
-// The edit of the words of a line after the first.
+// The edit that the words after the first make.
 pub fn edit_of(line: &[u8]) -> Edit
     ensures { λ r. ⌜ r ≡ editOfLine (now (line .entry)) ⌝ }
 {

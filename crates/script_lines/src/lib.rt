@@ -1,4 +1,4 @@
-// Answer lines, built in lent bytes from a place on. Each function answers the place after what it wrote; what has no room is left out.
+// Answer lines, built in lent bytes from a place on. Each function returns the place after what it wrote. What has no room is left out.
 ghost use mathlib.Core.Path.{_≡_};
 ghost use mathlib.Core.List.{[], _∷_};
 ghost use Prim.Native.Nat.{_<_, min};

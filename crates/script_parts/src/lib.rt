@@ -1,4 +1,4 @@
-// The parts of a line: words with one blank between two, or the parts of an item with one comma between two; and what a part stands for. A part that is not there has no bytes.
+// The parts of a line: words with one blank between two, or the parts of an item with one comma between two. Also what a part stands for. A part that is missing has no bytes.
 ghost use mathlib.Core.Path.{_≡_};
 ghost use lib.ListN.{length};
 ghost use Rattle.script_words.specs.Words.{wordOf, numberWord, internalKey, userWord};
@@ -13,7 +13,7 @@ pub struct Run {
     pub to: usize,
 }
 
-// A text of parts: a run of a line, and the mark that stands between two parts.
+// A run of a line, and the mark that separates its parts.
 pub struct Parts {
     pub from: usize,
     pub to: usize,
@@ -38,7 +38,7 @@ pub fn end_of(line: &[u8], p: Parts, from: usize) -> usize
     script_words::place_of(line, from, p.to, p.mark)
 }
 
-// Where the part after one that ends at a place begins: past the mark; where there is none, where the text ends.
+// Where the next part begins, if one ends at this place: past the mark, or the end of the text if there is no mark.
 fn start_after(p: Parts, end: usize) -> usize
     ensures { λ r. ⌜ r ≡ startAfter p end ⌝ }
 {

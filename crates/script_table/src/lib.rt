@@ -1,4 +1,4 @@
-// The table of the script's commands: which one a line is, what its words have to be, which word is not what it should be, and help.
+// The table of the script's commands: which command a line is, what its words must be, which word is wrong, and help.
 ghost use mathlib.Core.Path.{_≡_};
 ghost use mathlib.Core.Bool.{cond};
 ghost use Prim.Native.Nat.{_≤_, _+_};
@@ -9,7 +9,7 @@ ghost use Rattle.script_words.specs.Words.{wordOf};
 ghost use Rattle.script_table.specs.Faults.{counterName, bytesWord, ofNumbers, fitsOther, fits, Named};
 use script_parts::Parts;
 
-// The commands, one line each: the name; the group of the command, and which of the group it is; the kinds of its words; how the words are written, and what it answers.
+// The commands, one line each: the name, the group, the letter within the group, the kinds of the words, then the help text.
 // A kind with `*` after it stands for any number of words, one with `?` for one word or none; `.` is no word.
 const COMMANDS: [u8; 1756] =
     *b"new mn . -> ok: a fresh store, no pick, fresh memories; the maximum file size stays\n\
@@ -42,13 +42,13 @@ snapshot ax . -> the snapshot's bytes in hex\n\
 load cl H HEX -> ok: the store is what the bytes hold\n\
 help ph T? or help NAME -> the commands' names; how that one is written and what it answers\n";
 
-// The items of an edit, one line each, as the commands are.
+// The items of an edit, one line each, in the same form.
 const ITEMS: [u8; 34] = *b"p ip LK\n\
 d id LN\n\
 a ia LNSKK\n\
 l il N\n";
 
-// What a word of each kind has to be.
+// What a word of each kind must be.
 const KINDS: [u8; 477] = *b"L a level, 0 to 18446744073709551615\n\
 N a number, 0 to 18446744073709551615\n\
 S a size, 0 to 18446744073709551615\n\
@@ -65,8 +65,8 @@ X see help\n\
 P after pick or range only\n\
 Z 65536 bytes at most\n";
 
-// What is wrong with a line: the word, or the part of an item, counted from 1, the kind that is wanted there, and the run of the line that stands there. Kind 0: nothing is wrong; part 0: a
-// word.
+// What is wrong with a line: the word and the part of an item, both counted from 1, the kind that is wanted there, and the run of the line that stands there. Kind 0: nothing is wrong. Part 0:
+// the whole word.
 pub struct Fault {
     pub kind: u8,
     pub word: usize,
@@ -82,19 +82,19 @@ pub struct Reading {
     pub fault: Fault,
 }
 
-// An entry of a table: whether there is one, and the run of what follows its name.
+// An entry of a table: whether there is one, and the run of the table after its name.
 struct Entry {
     found: bool,
     from: usize,
     to: usize,
 }
 
-// The longest word that a fault shows whole.
+// The longest word that an answer shows whole.
 const SHOWN: usize = 40;
 
 // ---- entries of a table
 
-// The place so many bytes after another; the other where the machine does not count so far.
+// The place n bytes after another, or that one if the sum does not fit.
 fn ahead(at: usize, n: usize) -> usize {
     if at < 1000000 {
         if n < 1000000 {
@@ -146,7 +146,7 @@ fn entry_at(table: &[u8], line: &[u8], from: usize, to: usize) -> Entry {
     entry_of(table, &line[from..to])
 }
 
-// The kind that a table wants at a place: a letter, or another where no word is wanted any more.
+// The kind of word that the table asks for at a place. It is not a letter if no further word is wanted.
 fn wanted(table: &[u8], k: usize, end: u8) -> u8 {
     let b = script_words::byte_at(table, k);
     if b < b'A' {
@@ -158,7 +158,7 @@ fn wanted(table: &[u8], k: usize, end: u8) -> u8 {
     b
 }
 
-// The place of the kind after one: the same place where any number of words may stand.
+// The place of the next kind. It is the same place if any number of such words may follow.
 fn next_kind(table: &[u8], k: usize) -> usize {
     let b = script_words::byte_at(table, ahead(k, 1));
     if b == b'*' {
@@ -220,7 +220,7 @@ fn is_of_numbers(kind: u8) -> bool
     false
 }
 
-// Whether a word is of a kind that is neither one of keys nor one of numbers. Of two kinds every word is, of those that name an end none.
+// Whether a word is of this kind, for the kinds that are neither keys nor numbers. Two kinds take every word. The marks that end a list of kinds take none.
 fn is_of_other(line: &[u8], from: usize, to: usize, kind: u8) -> bool
     ensures { λ r. ⌜ r ≡ fitsOther (wordOf (now (line .entry)) from to) kind ⌝ }
 {
@@ -273,7 +273,7 @@ fn no_fault() -> Fault
     }
 }
 
-// The first of the parts after one, which ends at a place, that is not of the kind that a table wants there.
+// The first wrong part after the part that ends at this place.
 fn fault_of(table: &[u8], shape: usize, line: &[u8], p: Parts, first: usize, end: u8) -> Fault
     ensures { λ r. ⌜ Named (now (line .entry)) r ⌝ }
 {
@@ -302,7 +302,7 @@ fn fault_of(table: &[u8], shape: usize, line: &[u8], p: Parts, first: usize, end
     missing(table, k, line, n, word, end)
 }
 
-// A word that is wanted where the line ends already.
+// A word is missing at the end of the line.
 fn missing(table: &[u8], k: usize, line: &[u8], n: usize, word: usize, end: u8) -> Fault
     ensures { λ r. ⌜ Named (now (line .entry)) r ⌝ }
 {
@@ -322,7 +322,7 @@ fn missing(table: &[u8], k: usize, line: &[u8], n: usize, word: usize, end: u8) 
     }
 }
 
-// A fault of an item: its word is a part of that item.
+// The fault of an item: what was counted as a word is a part of the item.
 fn of_item(f: Fault, item: usize) -> Fault
     ensures { λ r. ⌜ (r .kind ≡ f .kind) × (r .from ≡ f .from) × (r .to ≡ f .to) ⌝ }
 {
@@ -359,7 +359,7 @@ fn item_fault(line: &[u8], from: usize, to: usize, item: usize) -> Fault
     of_item(fault_of(&items, ahead(e.from, 4), line, p, end, b'F'), item)
 }
 
-// What is wrong with the first bad item after the first word, which ends at a place.
+// What is wrong with the first bad item. The word before the items ends at this place.
 fn items_fault(line: &[u8], first: usize) -> Fault
     ensures { λ r. ⌜ Named (now (line .entry)) r ⌝ }
 {
@@ -379,7 +379,7 @@ fn items_fault(line: &[u8], first: usize) -> Fault
     no_fault()
 }
 
-// What is wrong with the name that help is asked for, if any.
+// What is wrong with the name after `help`, if anything.
 fn name_fault(table: &[u8], line: &[u8], first: usize) -> Fault
     ensures { λ r. ⌜ Named (now (line .entry)) r ⌝ }
 {
@@ -400,7 +400,7 @@ fn name_fault(table: &[u8], line: &[u8], first: usize) -> Fault
     }
 }
 
-// What is wrong with the words of a command of a group that the table does not say: the items of an edit, the name that help is asked for.
+// What is wrong with words that the kinds of the table do not describe: the items of an edit, the name after `help`.
 fn deeper(table: &[u8], line: &[u8], first: usize, group: u8, which: u8) -> Fault
     ensures { λ r. ⌜ Named (now (line .entry)) r ⌝ }
 {
@@ -413,7 +413,7 @@ fn deeper(table: &[u8], line: &[u8], first: usize, group: u8, which: u8) -> Faul
     no_fault()
 }
 
-// What is wrong with the words of a command, whose entry's name ends at a place of the table.
+// What is wrong with the words of a command. Its name ends at this place of the table.
 fn words_fault(table: &[u8], name: usize, line: &[u8], first: usize, group: u8, which: u8) -> Fault
     ensures { λ r. ⌜ Named (now (line .entry)) r ⌝ }
 {
@@ -431,7 +431,7 @@ fn words_fault(table: &[u8], name: usize, line: &[u8], first: usize, group: u8, 
     deeper(table, line, first, group, which)
 }
 
-// Which command a line is, and the first word that is not what it should be: what it names is not of the kind that it names.
+// Which command a line is, and its first wrong word.
 pub fn read(line: &[u8]) -> Reading
     ensures { λ r. ⌜ Named (now (line .entry)) (r .fault) ⌝ }
 {
@@ -474,7 +474,7 @@ fn put_run(out: &mut [u8], start: usize, bytes: &[u8], from: usize, to: usize) -
     at
 }
 
-// A byte that can be printed, `?` for another.
+// The byte if it can be printed, else `?`.
 fn printable(b: u8) -> u8 {
     if b < b' ' {
         return b'?';
@@ -485,7 +485,7 @@ fn printable(b: u8) -> u8 {
     b
 }
 
-// A run of a line between quotes, as far as it is shown; two dots for the rest.
+// A run of a line between quotes. A long one is cut, with two dots for the rest.
 fn put_shown(out: &mut [u8], start: usize, line: &[u8], from: usize, to: usize) -> usize {
     let mut at = script_lines::put_byte(out, start, b'\'');
     let mut shown: usize = 0;
@@ -518,7 +518,7 @@ fn put_place(out: &mut [u8], at: usize, f: Fault) -> usize {
     script_lines::put_byte(out, to, b' ')
 }
 
-// What a kind wants.
+// What a word of this kind must be.
 fn put_kind(out: &mut [u8], start: usize, kind: u8) -> usize {
     let table = KINDS;
     let e = entry_of(&table, &[kind]);
@@ -537,7 +537,7 @@ pub fn put_fault(out: &mut [u8], line: &[u8], f: Fault) -> usize
     script_lines::within(out, at)
 }
 
-// The line that says that a line is too long to be taken.
+// The answer to a line that is too long.
 pub fn put_too_long(out: &mut [u8]) -> usize
     ensures { λ r. ⌜ r ≤ length (now (out .exit)) ⌝ }
 {
@@ -572,7 +572,7 @@ fn put_gap(out: &mut [u8], at: usize) -> usize {
     script_lines::put_byte(out, at, b' ')
 }
 
-// How a command is written and what it answers: the text of its entry after the kinds, behind its name.
+// How a command is written and what it answers: its name, then the help text of its entry.
 fn put_usage(out: &mut [u8], table: &[u8], line: &[u8], from: usize) -> usize {
     let n = line.len();
     let e = entry_at(table, line, from, n);
@@ -581,7 +581,7 @@ fn put_usage(out: &mut [u8], table: &[u8], line: &[u8], from: usize) -> usize {
     put_run(out, at, table, text, e.to)
 }
 
-// The answer of help: the commands' names, or how the one that is named is written and what it answers.
+// The answer of `help`: the commands' names, or the help text of the one that is named.
 pub fn put_help(out: &mut [u8], line: &[u8]) -> usize
     ensures { λ r. ⌜ r ≤ length (now (out .exit)) ⌝ }
 {

@@ -1,4 +1,4 @@
-// The words of a script's line: numbers, keys and names. Every function answers for every line and every pair of places; what is no such word is not fine.
+// The words of a script's line: numbers, keys and names. Every function answers for every line and every pair of places. `fine` is false if the word is not of that kind.
 ghost use mathlib.Core.Path.{_≡_};
 ghost use mathlib.Core.Bool.{cond, true, false};
 ghost use mathlib.Core.List.{_++_};
@@ -88,7 +88,7 @@ pub fn is_word(line: &[u8], from: usize, to: usize, text: &[u8]) -> bool
     to <= at
 }
 
-// The number that a digit goes on with: none above the largest u64.
+// A number with one digit more, or none if that is above the largest u64.
 fn next_digit(x: u64, digit: u64) -> NumberWord
     ensures { λ r. ⌜ r ≡ cond (leb (x * 10 + digit) 18446744073709551615) (record { fine = true; value = x * 10 + digit }) noNumber ⌝ }
 {
@@ -356,7 +356,7 @@ fn key_of_text(line: &[u8], from: usize, mark: usize, to: usize) -> KeyWord
     }
 }
 
-// An internal key: hex digits, `-` for no bytes, or a text with its sequence, `d` after it for a deletion. Its length is its own, whatever a record holds.
+// An internal key: hex digits, `-` for no bytes, or a text with its sequence, `d` after it for a deletion. Its length is that of the word, also where the record has no room for it.
 pub fn internal_key(line: &[u8], from: usize, to: usize) -> KeyWord
     ensures { λ r. ⌜ r ≡ internalKey (now (line .entry)) from to ⌝ }
 {
@@ -395,7 +395,7 @@ fn front(bytes: [u8; Key::ROOM]) -> [u8; UserKey::ROOM]
     out
 }
 
-// A user key of a length of its own.
+// A user key of this length.
 fn user_of(fine: bool, bytes: [u8; Key::ROOM], len: usize) -> UserWord
     ensures { λ r. ⌜ r ≡ record { fine = fine; user = record { bytes = take longestUser bytes; len = len } } ⌝ }
 {

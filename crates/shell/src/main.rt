@@ -142,7 +142,7 @@ fn answer(out: &mut [u8], m: Machine, line: &[u8]) -> Machine {
     after
 }
 
-// How many bytes of a line count: not the carriage return at its end, and none of a line that is too long, which is said.
+// How many bytes of a line count: without a carriage return at its end. Says so if the line is too long, and then counts none.
 fn front_of(out: &mut [u8], line: &[u8], count: usize) -> usize
     ensures { λ r. ⌜ r ≤ length (now (line .entry)) ⌝ }
 {
@@ -167,7 +167,7 @@ fn take(out: &mut [u8], m: Machine, line: &[u8], count: usize) -> Machine {
     answer(out, m, &line[0..n])
 }
 
-// One byte more of a line; past the room only the count grows, to one past it.
+// One byte more of a line. If there is no room, only the count grows, up to one past the room.
 fn push(line: &mut [u8], n: usize, b: u8) -> usize {
     if n < line.len() {
         line[n] = b;

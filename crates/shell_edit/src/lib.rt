@@ -77,7 +77,7 @@ fn handed(h: Handed) -> Changed
     }
 }
 
-// The bytes of hex digits in lent bytes, as far as there is room; how many.
+// Writes the bytes of hex digits to lent bytes, as far as there is room. Returns how many.
 fn lay_hex(line: &[u8], from: usize, to: usize, out: &mut [u8]) -> usize
     ensures { λ r. ⌜ (r ≤ length (now (out .exit))) × (take r (now (out .exit)) ≡ take (length (now (out .exit))) (hexBytes (now (line .entry)) from to)) ⌝ }
 {

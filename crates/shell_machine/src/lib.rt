@@ -70,7 +70,7 @@ pub fn change(out: &mut [u8], m: Machine, line: &[u8], which: u8) -> Machine
     }
 }
 
-// What a pick leaves of the picks: on a refusal the one before it.
+// The last pick after a pick. A refusal leaves the one before.
 fn left(p: Picks, r: Pick) -> Picks
     ensures { λ x. ⌜ x ≡ leftBy p (r .picked) (r .outcome) ⌝ }
 {
@@ -97,7 +97,7 @@ pub fn pick_next(out: &mut [u8], m: Machine, line: &[u8], which: u8) -> Machine
     }
 }
 
-// What is wrong with a command on the last pick where there is none.
+// What is wrong with a command on the last pick if there is no pick.
 fn put_unpicked(out: &mut [u8], line: &[u8]) -> usize
     ensures { λ r. ⌜ r ≤ length (now (out .exit)) ⌝ }
 {
@@ -111,7 +111,7 @@ fn put_unpicked(out: &mut [u8], line: &[u8]) -> usize
     script_table::put_fault(out, line, f)
 }
 
-// Answers a command on the last pick; where there is none, it is told so.
+// Answers a command on the last pick. If there is no pick, says so.
 pub fn follow(out: &mut [u8], m: Machine, line: &[u8], which: u8) -> Machine
     ensures { λ r. ⌜ (r .at ≤ length (now (out .exit))) × (r .store ≡ m .store) × Stays (m .picks) (r .picks) ⌝ }
 {

@@ -58,7 +58,7 @@ fn nth(numbers: [u64; 5], k: usize) -> u64
     0
 }
 
-// A form, its marks in turn filled with numbers.
+// A form, with its marks replaced by numbers in turn.
 pub fn put_form(out: &mut [u8], start: usize, form: &[u8], numbers: [u64; 5]) -> usize
     ensures { λ r. ⌜ Laid (now (out .entry)) start (formText numbers (now (form .entry)) 0) (now (out .exit)) r ⌝ }
 {

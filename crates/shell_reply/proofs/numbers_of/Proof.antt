@@ -7,7 +7,7 @@ use lib.ListN.{length, getD, length-set}
 use lib.Seq.{slice}
 use Rattle.lemmas.specs.Slices.{put, length-of-map}
 use Rattle.lemmas.specs.Loops.{view-laid, view-all-laid}
-use Rattle.records.specs.RecordLaws.{past}
+use Rattle.records.specs.Record.{past}
 use Rattle.shell_reply.specs.Replies.{numberOf}
 use Rattle.shell_reply.specs.ReplyLaws.{column-begun}
 use borrow.Author.Needs.{needs}
