@@ -1,4 +1,4 @@
--- Laws of many picks, one after another: what one more adds, where they stand, what they come to. Assumes nothing.
+-- Laws of many picks, one after another: what one more adds, where they stand, their result. Assumes nothing.
 use Prim.Native.Nat.{ℕ, suc, _+_, _-_, _<_, _≤_}
 use native.Mathlib.Nat.{sub-zero}
 use native.Mathlib.Omega.{arith}
@@ -36,7 +36,7 @@ at-most-one t = go (t .outcome)
     go Done = omega arith
     go (Refused n) = omega arith
 
--- where so many picks on a store stand: the store as it is now, how many of how many were done, and that those with the rest come to the whole
+-- where so many picks on a store stand: the store as it is now, how many of how many were done, and that those and the rest make the whole
 pub record Standing (call : State → Answer model.Pick) (n : ℕ) (s : Store) : Type 0 where
   pub store : Store
   pub done : ℕ

@@ -26,18 +26,18 @@ module _ (level : ℕ) (old new : List FileRecord) (e f : ℕ) where
   -- the level was begun at i₀ and j₀, when out₀ was laid down
   module _ (out₀ : List FileRecord) (seen₀ : Seen) (i₀ j₀ : ℕ) where
     -- where it stands: what is laid down, with what is left, is the whole; what is seen, with what is left to be asked, is whether any collide
-    abbrev pub Stands : List FileRecord → Seen → ℕ → ℕ → Type 0
-    Stands out s i j =
+    abbrev pub MergeInvariant : List FileRecord → Seen → ℕ → ℕ → Type 0
+    MergeInvariant out s i j =
         (i₀ ≤ i) × (i ≤ e) × (j ≤ f) × (e + f ≤ maxFiles) × (f ≤ maxAdditions) × (length out ≡ maxFiles)
         × (put out (i + j) (merged i j) ≡ put out₀ (i₀ + j₀) (merged i₀ j₀))
         × (inOrder level (map fileOf (slice i₀ e old)) ≡ true)
         × Sees level s (i < e) (getD old i past)
         × ((s .fits && rest level s (merged i j)) ≡ (seen₀ .fits && noCollision level (map fileOf (merged i₀ j₀))))
 
-    module _ (out : List FileRecord) (s : Seen) (i j : ℕ) (now : Stands out s i j) (g : e ≤ length old) (q : f ≤ length new) (x : FileRecord) (t : Seen) where
+    module _ (out : List FileRecord) (s : Seen) (i j : ℕ) (now : MergeInvariant out s i j) (g : e ≤ length old) (q : f ≤ length new) (x : FileRecord) (t : Seen) where
       -- x is laid down, and is the first of what was left
       laid : (k l : ℕ) → k + l ≡ i + j + 1 → i₀ ≤ k → k ≤ e → l ≤ f → merged i j ≡ x ∷ merged k l → Sees level t (k < e) (getD old k past) → ((t .fits && rest level t (merged k l)) ≡ (s .fits && rest level s (merged i j)))
-          → Stands (set out (i + j) x) t k l
+          → MergeInvariant (set out (i + j) x) t k l
       laid k l next from h p takes sees asks = (
         from,
         h,
@@ -52,7 +52,7 @@ module _ (level : ℕ) (old new : List FileRecord) (e f : ℕ) where
       )
 
       -- it is an added one
-      pub turn-new : t ≡ seenAfter s x true → getD new j past ≡ x → j < f → (i < e → recordBefore (getD new j past) (getD old i past) ≡ true) → Stands (set out (i + j) x) t i (j + 1)
+      pub turn-new : t ≡ seenAfter s x true → getD new j past ≡ x → j < f → (i < e → recordBefore (getD new j past) (getD old i past) ≡ true) → MergeInvariant (set out (i + j) x) t i (j + 1)
       turn-new u here p first =
           let more = merged i (j + 1) in
           let next = takes-second recordBefore old new i e j f past (now .1) g p q first ∙ ap (λ (y : FileRecord). y ∷ more) here in
@@ -60,7 +60,7 @@ module _ (level : ℕ) (old new : List FileRecord) (e f : ℕ) where
           (rw u (rest-new level s x (i < e) (getD old i past) (now .8) more) ∙ ap (λ (z : List FileRecord). s .fits && rest level s z) (sym next))
 
       -- it is one that stays
-      pub turn-old : t ≡ seenAfter s x false → getD old i past ≡ x → i < e → (j < f → recordBefore (getD new j past) (getD old i past) ≡ false) → Stands (set out (i + j) x) t (i + 1) j
+      pub turn-old : t ≡ seenAfter s x false → getD old i past ≡ x → i < e → (j < f → recordBefore (getD new j past) (getD old i past) ≡ false) → MergeInvariant (set out (i + j) x) t (i + 1) j
       turn-old u here h first =
           let more = merged (i + 1) j in
           let next = takes-first recordBefore old new i e j f past h g (now .2) q first ∙ ap (λ (y : FileRecord). y ∷ more) here in

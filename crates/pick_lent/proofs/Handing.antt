@@ -22,7 +22,7 @@ use Rattle.pick_plan.specs.Plans.{answerOf, Feasible}
 use Rattle.pick_lent.specs.Taking.{Leaves}
 use Rattle.pick_plan.proofs.PickPlan as P
 use Rattle.pick_lent.proofs.Lent.{machP, coded, Own, had-plan, asks-handed, left-at}
-use Rattle.pick_lent.proofs.Planned.{handed, values, Plan}
+use Rattle.pick_lent.proofs.Planned.{handed, values, OwnPlan}
 use Rattle.pick_lent.proofs.take as take
 
 module _ {M : Type 1} (𝓤 : URA M) (H : Heap 𝓤) (A : Atoms 𝓤) (at-mem : Memory → SProp 𝓤) (run : Routine → Fun 𝓤) where
@@ -37,7 +37,7 @@ module _ {M : Type 1} (𝓤 : URA M) (H : Heap 𝓤) (A : Atoms 𝓤) (W : Given
 
   -- what it asks
   pub goes-take : Is P.the-row p (machP p ∷ []) → Feasible h p → ent 𝓤 (sep 𝓤 (sem 𝓤 H A (Own κ b o γ h)) (A .lft κ q)) (Take 𝓤 H A at-mem run .pre to-take)
-  goes-take is f = qed W (‵ (Own κ b o γ h) ∷ ‵ (flft κ q) ∷ []) ∵ says ! f $ by ! (asks-handed 𝓤 H A W (Plan p) (had-plan 𝓤 H A W p is) κ q b o γ h)
+  goes-take is f = qed W (‵ (Own κ b o γ h) ∷ ‵ (flft κ q) ∷ []) ∵ says ! f $ by ! (asks-handed 𝓤 H A W (OwnPlan p) (had-plan 𝓤 H A W p is) κ q b o γ h)
 
   -- what it says: the last store, and what it leaves there
   abbrev pub Taking : Taken → SProp 𝓤

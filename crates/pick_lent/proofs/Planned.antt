@@ -33,8 +33,8 @@ abbrev pub values : ℕ → ℕ → PickPlan → List Val × (List Val × Unit {
 values b o p = (vptr b o ∷ [], (machP p ∷ [], tt))
 
 -- what a plan owns, as the last parameter
-abbrev pub Plan : PickPlan → Fml
-Plan p = fsep (P.the-row .own p (machP p ∷ [])) ftrue
+abbrev pub OwnPlan : PickPlan → Fml
+OwnPlan p = fsep (P.the-row .own p (machP p ∷ [])) ftrue
 
 -- where the plan is not refused: what it asks of the store, and what its searches lead to
 abbrev pub Asks : Store → PickPlan → Type 0

@@ -42,7 +42,7 @@ use Rattle.records.proofs.Arrays.{machs}
 use Rattle.pick_lent.proofs.Lent.{machP}
 
 -- ---- the machine values
--- of a cause, of an outcome, of what the searches come to
+-- of a cause, of an outcome, of the result of the searches
 abbrev pub machX : Cause → Val
 machX = EL.val X.the-type X′.the-laws
 
@@ -140,7 +140,7 @@ module _ {M : Type 1} {𝓤 : URA M} {H : Heap 𝓤} {A : Atoms 𝓤} {K : Type 
   pub plan-search : K → {q : Share} {l : ℕ} (p : PickPlan) → Part K W (‵ (fat q P′.mir l 0 (machP p))) q (tyInt w64) l searchAt (vint w64 (p .search)) (λ u. ‵ (fat q P′.mir l 0 (changed 3 (machP p) u)))
   plan-search t p = sub t 3 search-in-plan (whole t)
 
-  -- the outcome, the cause and the choice that the searches come to
+  -- the outcome, the cause and the choice that result from the searches
   pub end-outcome : K → {q : Share} {l : ℕ} (e : Ending) → Part K W (‵ (fat q E′.mir l 0 (machE e))) q U′.mir l 0 (machU (e .outcome)) (λ u. ‵ (fat q E′.mir l 0 (changed 0 (machE e) u)))
   end-outcome t e = sub t 0 outcome-in-end (whole t)
 

@@ -56,7 +56,7 @@ rest c =
 check-pointings-requires : tie.Need-check-pointings-requires
 check-pointings-requires c κs = within (c .before .before .before) .pointings
 
--- what the tests of the pointers come to
+-- the outcome of the tests of the pointers
 pointed : (c : tie.After-check-pointings) → c .check-pointings .result ≡ passed (pointerRefusals full (editOf (c .before .before .before .before .before .before .args .e) .pointers))
 pointed c =
     let e = c .before .before .before .before in

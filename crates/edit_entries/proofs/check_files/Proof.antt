@@ -20,7 +20,7 @@ within s = few (s .args .e) (has-room (s .args .e) _ (s .good .0)) (s .pre)
 check-deletions-requires : tie.Need-check-deletions-requires
 check-deletions-requires c κs = within (c .before) .deletions
 
--- what the tests of the deletions come to
+-- the outcome of the tests of the deletions
 deleted : (c : tie.After-check-deletions) → c .check-deletions .result ≡ passed (deletionRefusals full (editOf (c .before .before .args .e) .deletions))
 deleted c =
     let s = c .before .before in

@@ -25,12 +25,12 @@ use Rattle.edit_merge.specs.Builder.{filesOf, merges, mergedOf}
 use Rattle.edit_merge.specs.Neighbours.{seenAfter}
 use Rattle.edit_merge.specs.MergeLaws.{takes-none, merges-turn, merges-over}
 use Rattle.edit_merge.specs.NeighbourLaws.{rest, fits-begun, sees-begun, rest-begun, rest-ended, levelwise-turn, levelwise-found}
-use Rattle.edit_merge.proofs.Turning.{Stands, turn-new, turn-old}
+use Rattle.edit_merge.proofs.Turning.{MergeInvariant, turn-new, turn-old}
 use Rattle.edit_merge.proofs.merge.Statement.{statement}
 use Rattle.edit_merge.proofs.merge.Tie as tie
 
 abbrev Inv-loop2 : tie.InvT-loop2
-Inv-loop2 files places counts news order new-counts out₀ seen₀ i₀ j₀ level to new-to out seen i j = Stands level (recordsAt files places) (recordsAt news order) to new-to out₀ seen₀ i₀ j₀ out seen i j
+Inv-loop2 files places counts news order new-counts out₀ seen₀ i₀ j₀ level to new-to out seen i j = MergeInvariant level (recordsAt files places) (recordsAt news order) to new-to out₀ seen₀ i₀ j₀ out seen i j
 
 abbrev μ-loop2 : tie.MeasureT-loop2
 μ-loop2 files places counts news order new-counts out₀ seen₀ i₀ j₀ level to new-to out seen i j = (to + new-to) - (i + j)

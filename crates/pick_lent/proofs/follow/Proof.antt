@@ -98,7 +98,7 @@ use Rattle.records.proofs.Arrays.{Alone, within, alone, machs, array-told}
 use Rattle.pick_lent.proofs.Lent.{machP, machT, left, leaves, Borrow, coded, Shared, had-plan, asks-plain, asks-fact, hands-back, held, opened, closed, let-go, returned}
 use Rattle.pick_lent.proofs.Reading.{machX, machE, machQs, cause-in-plan, asked-in-plan, search-in-plan, outcome-in-end, cause-in-end, choice-in-end, level-in-choice, maximum-in-choice, first-in-choice, second-in-choice, grand-in-choice, count-in-found, pointers-in-store}
 use Rattle.pick_lent.proofs.Reading.{plan-cause, plan-asked, plan-search, end-outcome, end-cause, end-choice, end-level, end-maximum, end-first, end-second, end-grand, store-pointers}
-use Rattle.pick_lent.proofs.Planned.{lent, handed, values, Plan, Asks, answer}
+use Rattle.pick_lent.proofs.Planned.{lent, handed, values, OwnPlan, Asks, answer}
 use Rattle.pick_lent.proofs.follow.Key.{name as #pick-lent·follow}
 use Rattle.pick_lent.proofs.follow as follow
 use Rattle.pick_lent.proofs.follow.Statement as stated
@@ -127,7 +127,7 @@ asked-of p is = LL.owed P.the-type P′.the-laws p _ is .1 .1 .0
 search-of : (p : PickPlan) → Is P.the-row p (machP p ∷ []) → Is usize (p .search) (vint w64 (p .search) ∷ [])
 search-of p is = LL.owed P.the-type P′.the-laws p _ is .1 .1 .1 .0
 
--- of what the searches come to: what was chosen
+-- of the result of the searches: what was chosen
 choice-of : (e : Ending) → Is E.the-row e (machE e ∷ []) → Is O.the-row (e .choice) (machC (e .choice) ∷ [])
 choice-of e is = LL.owed E.the-type E′.the-laws e _ is .1 .1 .0
 
@@ -173,7 +173,7 @@ made-is : (e : Ending) (fs : List FileRecord) → Is E.the-row e (machE e ∷ []
 made-is e fs e-is fs-is = LL.owes T.the-type T′.the-laws (made e fs) (picked-is e fs e-is fs-is, (LL.owed E.the-type E′.the-laws e _ e-is .0, tt))
 
 -- ---- the facts
--- with what the contract asks of the caller, and what the searches come to
+-- with what the contract asks of the caller, and the result of the searches
 module _ (h : Store) (g : Is S.the-row h (machS h ∷ [])) (p : PickPlan) (asks : Asks h p) (c : Choice) (chosen : Chooses h (p .asked) (p .search) 5 c) (e : Ending) (came : e ≡ endOf (p .cause) c) where
   -- what was chosen stands in the store, and its level is one
   placed : Placed h (e .choice)
@@ -231,7 +231,7 @@ module _ {M : Type 1} (𝓤 : URA M) (H : Heap 𝓤) (A : Atoms 𝓤) (W : Given
   exits r is z l =
       qed W (‵ (flft κ q) ∷ ‵ (fres γ (coded z)) ∷ []) ∵
       suffices ! _ (ends-at 𝓤 H A follow.ended stayed (follow.clauses 𝓤 H A at-mem run) W (((κ, tt), (q, tt), tt, handed b o γ h p, values b o p), tt) (machT r) r (z, (tt, tt)) (tt, (tt, tt))) $
-      says ! l $ by ! (hands-back 𝓤 H A W (Plan p) (had-plan 𝓤 H A W p p-is) κ q γ z r is)
+      says ! l $ by ! (hands-back 𝓤 H A W (OwnPlan p) (had-plan 𝓤 H A W p p-is) κ q γ z r is)
 
   -- ---- the call of `choose`: what it is made at, what it asks, and what it says
   abbrev Searching : Fml
@@ -390,7 +390,7 @@ module _ {M : Type 1} (𝓤 : URA M) (H : Heap 𝓤) (A : Atoms 𝓤) (W : Given
               shared-back ! Rs machRs (array-told R.the-type maxFiles R′.the-field-laws) h b o w (Laying g d d-is ν δ) (λ fs. fs ≡ laidChoice h d) (said-laid g d d-is ν δ) (λ fs lays fs-is.
               land ! (from ! (stop !)) (init ! 14 refl (array-lawful 𝓤 H A W R.the-row (LL.lawful R.the-type R′.the-laws 𝓤 H A W) maxFiles .typed fs _ fs-is .0)) $ sets-them fs lays fs-is)))
 
-        -- what the searches come to
+        -- the result of the searches
         ends-them : Sq W (At (room pointers l₁₀) (room pointers l₉) (room lent-on l₈) (cell lent-on l₇ (vptr b o)) (room files l₅) (room E′.mir l₄) (cell O′.mir l₃ (machC c))) (runs C Λ En mirs.t-3 (atRet En Post))
         ends-them =
             use0 W (raw (Ended 𝓤 H A at-mem run .pre (to-ended c c-is))) (goes-ended c c-is) $

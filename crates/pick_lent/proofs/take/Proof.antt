@@ -63,7 +63,7 @@ use Rattle.pick_lent.proofs.follow.Symbol as follow-def
 use Rattle.pick_lent.proofs.follow.Symbol.{name as #pick-lent·follow}
 use Rattle.pick_lent.proofs.follow.Met as follow-thm
 use Rattle.pick_lent.proofs.Lent.{machP, machT, leaves, coded, Own, had-plan, asks-plain, asks-handed, hands-back, left-at, held, let-go, returned, given-up}
-use Rattle.pick_lent.proofs.Planned.{lent, handed, values, Plan, Asks, answer}
+use Rattle.pick_lent.proofs.Planned.{lent, handed, values, OwnPlan, Asks, answer}
 use Rattle.pick_lent.proofs.take.Key.{name as #pick-lent·take}
 use Rattle.pick_lent.proofs.take as take
 use Rattle.pick_lent.proofs.take.Statement as stated
@@ -112,14 +112,14 @@ module _ {M : Type 1} (𝓤 : URA M) (H : Heap 𝓤) (A : Atoms 𝓤) (W : Given
   exits r is z l =
       qed W (‵ (flft κ q) ∷ ‵ (fres γ (coded z)) ∷ []) ∵
       suffices ! _ (ends-at 𝓤 H A take.ended stayed (take.clauses 𝓤 H A at-mem run) W (((κ, tt), (q, tt), tt, handed b o γ h p, values b o p), tt) (machT r) r (z, (tt, tt)) (tt, (tt, tt))) $
-      says ! l $ by ! (hands-back 𝓤 H A W (Plan p) (had-plan 𝓤 H A W p p-is) κ q γ z r is)
+      says ! l $ by ! (hands-back 𝓤 H A W (OwnPlan p) (had-plan 𝓤 H A W p p-is) κ q γ z r is)
 
   -- ---- the calls by value: what each is made at, what it asks, and what it says
   abbrev to-is-accepted : IsAccepted 𝓤 H A at-mem run .Ghost
   to-is-accepted = ((tt, tt, tt, (p, tt), (machP p ∷ [], tt)), tt)
 
   asks-is-accepted : ent 𝓤 (emp 𝓤) (IsAccepted 𝓤 H A at-mem run .pre to-is-accepted)
-  asks-is-accepted = asks-plain 𝓤 H A W (Plan p) (had-plan 𝓤 H A W p p-is)
+  asks-is-accepted = asks-plain 𝓤 H A W (OwnPlan p) (had-plan 𝓤 H A W p p-is)
 
   abbrev Going : Bool → SProp 𝓤
   Going t = ensured 𝓤 H A is-accepted.ended (is-accepted.clauses 𝓤 H A at-mem run) tt (p, tt) tt t
@@ -131,7 +131,7 @@ module _ {M : Type 1} (𝓤 : URA M) (H : Heap 𝓤) (A : Atoms 𝓤) (W : Given
   to-none-taken = ((tt, tt, tt, (p, tt), (machP p ∷ [], tt)), tt)
 
   goes-none-taken : ent 𝓤 (emp 𝓤) (NoneTaken 𝓤 H A at-mem run .pre to-none-taken)
-  goes-none-taken = asks-plain 𝓤 H A W (Plan p) (had-plan 𝓤 H A W p p-is)
+  goes-none-taken = asks-plain 𝓤 H A W (OwnPlan p) (had-plan 𝓤 H A W p p-is)
 
   abbrev Refusing : Taken → SProp 𝓤
   Refusing r = ensured 𝓤 H A none-taken.ended (none-taken.clauses 𝓤 H A at-mem run) tt (p, tt) tt r
@@ -144,7 +144,7 @@ module _ {M : Type 1} (𝓤 : URA M) (H : Heap 𝓤) (A : Atoms 𝓤) (W : Given
   to-follow = (((κ, tt), (q, tt), tt, handed b o γ h p, values b o p), tt)
 
   goes-follow : Asks h p → ent 𝓤 (sep 𝓤 (sem 𝓤 H A (Own κ b o γ h)) (A .lft κ q)) (Follow 𝓤 H A at-mem run .pre to-follow)
-  goes-follow f = qed W (‵ (Own κ b o γ h) ∷ ‵ (flft κ q) ∷ []) ∵ says ! f $ by ! (asks-handed 𝓤 H A W (Plan p) (had-plan 𝓤 H A W p p-is) κ q b o γ h)
+  goes-follow f = qed W (‵ (Own κ b o γ h) ∷ ‵ (flft κ q) ∷ []) ∵ says ! f $ by ! (asks-handed 𝓤 H A W (OwnPlan p) (had-plan 𝓤 H A W p p-is) κ q b o γ h)
 
   abbrev Following : Taken → SProp 𝓤
   Following r = ensured 𝓤 H A follow.ended (follow.clauses 𝓤 H A at-mem run) (κ, tt) (handed b o γ h p) tt r
