@@ -1,1 +1,3 @@
 pub mod Machine
+pub mod Picking
+pub mod PickingLaws

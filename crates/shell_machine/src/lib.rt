@@ -4,9 +4,9 @@ ghost use mathlib.Core.Bool.{false};
 ghost use Prim.Native.Nat.{_≤_};
 ghost use lib.ListN.{length};
 ghost use Rattle.shell_edit.specs.Changes.{changedBy};
-ghost use Rattle.shell_pick.specs.Picking.{pickedBy};
 ghost use Rattle.shell_follow.specs.Following.{Stays};
 ghost use Rattle.shell_machine.specs.Machine.{Fresh, leftBy};
+ghost use Rattle.shell_machine.specs.Picking.{rangePick, pickedBy};
 use answers::Outcome;
 use pick_answer::Cause;
 use pick_answer::Pick;
@@ -70,6 +70,27 @@ pub fn change(out: &mut [u8], m: Machine, line: &[u8], which: u8) -> Machine
     }
 }
 
+// The pick of the range that a line names.
+fn range(s: Store, maximum: u64, line: &[u8]) -> Pick
+    ensures { λ r. ⌜ r ≡ rangePick s maximum (now (line .entry)) ⌝ }
+{
+    let w = script_parts::words_of(line);
+    let l = script_parts::number(line, w, 1);
+    let a = script_parts::key(line, w, 2);
+    let b = script_parts::key(line, w, 3);
+    pick::compact_range(s, maximum, l.value as usize, a.key, b.key)
+}
+
+// The pick that a line asks for, by its letter: by size, or of a range.
+fn picked(s: Store, maximum: u64, line: &[u8], which: u8) -> Pick
+    ensures { λ r. ⌜ r ≡ pickedBy s maximum (now (line .entry)) which ⌝ }
+{
+    if which == b'p' {
+        return pick::pick_compaction(s, maximum);
+    }
+    range(s, maximum, line)
+}
+
 // The last pick after a pick. A refusal leaves the one before.
 fn left(p: Picks, r: Pick) -> Picks
     ensures { λ x. ⌜ x ≡ leftBy p (r .picked) (r .outcome) ⌝ }
@@ -87,7 +108,7 @@ pub fn pick_next(out: &mut [u8], m: Machine, line: &[u8], which: u8) -> Machine
     ensures { λ r. ⌜ (r .at ≤ length (now (out .exit))) × (r .store ≡ pickedBy (m .store) (m .picks .maximum) (now (line .entry)) which .store) ⌝ }
 {
     let p = m.picks;
-    let r = shell_pick::picked(m.store, p.maximum, line, which);
+    let r = picked(m.store, p.maximum, line, which);
     let at = shell_pick::put_pick(out, r);
     let s = r.store;
     Machine {

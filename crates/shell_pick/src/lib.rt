@@ -1,8 +1,6 @@
-// The commands that pick what to compact, and their answer line.
-ghost use mathlib.Core.Path.{_≡_};
+// The answer line of a pick: level, cause, inputs, grandparents, pointer, deletions of the inputs; or the refusal.
 ghost use Prim.Native.Nat.{_≤_};
 ghost use lib.ListN.{length};
-ghost use Rattle.shell_pick.specs.Picking.{rangePick, pickedBy};
 use answers::Outcome;
 use answers::YesNo;
 use edit::Deletion;
@@ -14,28 +12,6 @@ use records::FileRecord;
 use records::Level;
 use records::Version;
 use store::Pointer;
-use store::Store;
-
-// The pick of the range that a line names.
-fn range(s: Store, maximum: u64, line: &[u8]) -> Pick
-    ensures { λ r. ⌜ r ≡ rangePick s maximum (now (line .entry)) ⌝ }
-{
-    let w = script_parts::words_of(line);
-    let l = script_parts::number(line, w, 1);
-    let a = script_parts::key(line, w, 2);
-    let b = script_parts::key(line, w, 3);
-    pick::compact_range(s, maximum, l.value as usize, a.key, b.key)
-}
-
-// The pick that a line asks for, by its letter: by size, or of a range.
-pub fn picked(s: Store, maximum: u64, line: &[u8], which: u8) -> Pick
-    ensures { λ r. ⌜ r ≡ pickedBy s maximum (now (line .entry)) which ⌝ }
-{
-    if which == b'p' {
-        return pick::pick_compaction(s, maximum);
-    }
-    range(s, maximum, line)
-}
 
 // Whether a pick's cause is manual.
 fn is_manual(c: Cause) -> bool {

@@ -1,9 +1,9 @@
--- `shell_pick::range` meets its contract. Assumes nothing.
+-- `shell_machine::range` meets its contract. Assumes nothing.
 use mathlib.Core.Path.{_≡_, _∙_}
-use Rattle.shell_pick.specs.PickingLaws.{range-is}
+use Rattle.shell_machine.specs.PickingLaws.{range-is}
 use borrow.Author.Needs.{needs}
-use Rattle.shell_pick.proofs.range.Statement.{statement}
-use Rattle.shell_pick.proofs.range.Tie as tie
+use Rattle.shell_machine.proofs.range.Statement.{statement}
+use Rattle.shell_machine.proofs.range.Tie as tie
 
 words-of-requires : tie.Need-words-of-requires
 words-of-requires c κs = search needs

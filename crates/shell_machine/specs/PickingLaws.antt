@@ -13,7 +13,7 @@ use Rattle.script_words.specs.declared.KeyWord.{KeyWord}
 use Rattle.script_words.specs.Words.{wordOf, numberWord, internalKey}
 use Rattle.script_parts.specs.declared.Parts.{Parts}
 use Rattle.script_parts.specs.Parts.{wordsOf, runOf}
-use Rattle.shell_pick.specs.Picking.{rangePick}
+use Rattle.shell_machine.specs.Picking.{rangePick}
 
 -- its words read as the level and the two keys
 pub range-is : (s : Store) (maximum : ℕ) (line : List ℕ) (w : Parts) (l : NumberWord) (a b : KeyWord) → w ≡ wordsOf line

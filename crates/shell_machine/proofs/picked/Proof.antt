@@ -1,10 +1,10 @@
--- `shell_pick::picked` meets its contract. Assumes nothing.
+-- `shell_machine::picked` meets its contract. Assumes nothing.
 use mathlib.Core.Path.{_≡_}
 use borrow.Author.Tests.{eq-eqb, ne-eqb}
-use Rattle.shell_pick.specs.Picking.{sizePick, pickedBy}
+use Rattle.shell_machine.specs.Picking.{sizePick, pickedBy}
 use borrow.Author.Needs.{needs}
-use Rattle.shell_pick.proofs.picked.Statement.{statement}
-use Rattle.shell_pick.proofs.picked.Tie as tie
+use Rattle.shell_machine.proofs.picked.Statement.{statement}
+use Rattle.shell_machine.proofs.picked.Tie as tie
 
 pick-compaction-requires : tie.Need-pick-compaction-requires
 pick-compaction-requires c κs = search needs
