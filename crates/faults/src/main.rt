@@ -19,6 +19,7 @@ use pick_answer::Picked;
 use records::FileRecord;
 use records::Level;
 use records::Version;
+use script_parts::Run;
 use snapshot_write::Written;
 use store::Pointer;
 use store::Store;
@@ -39,12 +40,6 @@ struct Table {
     count: u64,
 }
 
-// A run of a line.
-struct LinePart {
-    from: usize,
-    to: usize,
-}
-
 // The first part of an answer: a number (yes is 1, no is 0), that there is none, or the number of the refusal.
 enum FirstPart {
     Number(u64),
@@ -54,28 +49,9 @@ enum FirstPart {
 
 // ---- words
 
-// Where the word after one that begins at a place begins, or the line's end.
-fn after_word(line: &[u8], from: usize) -> usize {
-    let n = line.len();
-    let at = script_words::place_of(line, from, n, b' ');
-    if at < n {
-        return at + 1;
-    }
-    n
-}
-
 // The i-th word of a line, from 0; no bytes where there is none.
-fn word(line: &[u8], i: usize) -> LinePart {
-    let mut from: usize = 0;
-    let mut left = i;
-    while 0 < left {
-        from = after_word(line, from);
-        left -= 1;
-    }
-    LinePart {
-        from: from,
-        to: script_words::place_of(line, from, line.len(), b' '),
-    }
+fn word(line: &[u8], i: usize) -> Run {
+    script_parts::run_of(line, script_parts::words_of(line), i)
 }
 
 // The i-th word as a number, 0 where it is none.
@@ -120,7 +96,7 @@ fn user(line: &[u8], i: usize) -> UserKey {
 }
 
 // Whether a run of a text is a word of a line.
-fn is_name(names: &[u8], from: usize, to: usize, line: &[u8], w: LinePart) -> bool {
+fn is_name(names: &[u8], from: usize, to: usize, line: &[u8], w: Run) -> bool {
     if names.len() < to {
         return false;
     }
@@ -668,32 +644,47 @@ fn print_count(n: u64) {
     io::write_all(1, b": ");
 }
 
+// What is at hand after a line.
+fn next_hand(h: Hand, kept: Hand, line: &[u8], command: usize) -> Hand {
+    if command == 0 {
+        return fresh();
+    }
+    if command == 2 {
+        return kept;
+    }
+    changed(h, line, command)
+}
+
+// What is kept after a line.
+fn next_kept(h: Hand, kept: Hand, command: usize) -> Hand {
+    if command == 1 {
+        return h;
+    }
+    kept
+}
+
+// Answers a question, with its count before it. Returns how many questions there were.
+fn counted(h: Hand, line: &[u8], before: u64) -> u64 {
+    let n = before % 1000000 + 1;
+    print_count(n);
+    answer(h, line);
+    n
+}
+
 // One line.
 fn take(t: Table, line: &[u8]) -> Table {
     let command = name(b"new keep back set count file pointer asked ask", line, 0);
-    let mut after = t;
     let h = t.hand;
-    if command == 0 {
-        after.hand = fresh();
-        return after;
-    }
-    if command == 1 {
-        after.kept = h;
-        return after;
-    }
-    if command == 2 {
-        let kept = t.kept;
-        after.hand = kept;
-        return after;
-    }
+    let kept = t.kept;
+    let mut n = t.count;
     if command == 8 {
-        after.count = t.count % 1000000 + 1;
-        print_count(after.count);
-        answer(h, line);
-        return after;
+        n = counted(h, line, n);
     }
-    after.hand = changed(h, line, command);
-    after
+    Table {
+        hand: next_hand(h, kept, line, command),
+        kept: next_kept(h, kept, command),
+        count: n,
+    }
 }
 
 // A run of the table as a line; lines that begin with # say what follows.
