@@ -13,8 +13,10 @@ pub mod Distinct
 pub mod Bisect
 pub mod Each
 pub mod Merge
+pub mod Compare
 pub mod UpFrom
 pub mod Insertion
 pub mod Owned
 pub mod Fractions
 pub mod Laying
+pub mod Once

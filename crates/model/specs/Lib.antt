@@ -10,6 +10,9 @@ pub mod Question
 pub mod Snapshot
 pub mod Calls
 pub mod History
+pub mod Difference
+pub mod Patched
+pub mod DifferenceBytes
 pub mod KeyLaws
 pub mod AnswerLaws
 pub mod EditLaws
@@ -26,3 +29,11 @@ pub mod HistoryLaws
 pub mod Demand3
 pub mod Reading
 pub mod Examples
+pub mod DifferenceListedLaws
+pub mod DifferenceOrderLaws
+pub mod DifferenceLaws
+pub mod PatchedLaws
+pub mod DifferenceLengthLaws
+pub mod DifferenceReadingLaws
+pub mod DifferingLaws
+pub mod DifferenceExamples

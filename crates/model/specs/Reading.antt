@@ -61,22 +61,22 @@ decode-sound p bs s h = go (readState p bs) h
 
 -- ---- readers of what was written
 -- the reader reads the value from these bytes, whatever follows
-pub Reads : {A : Type 0} → Reader A → List ℕ → A → Type 0
+unfoldable pub Reads : {A : Type 0} → Reader A → List ℕ → A → Type 0
 Reads {A} r w a = (x : List ℕ) → r (w ++ x) ≡ some (record { value = a; rest = x })
 
 module _ {A B : Type 0} where
   -- one reader after another
-  then : (r : Reader A) (f : A → Reader B) (v w : List ℕ) (a : A) (b : B) → Reads r v a → Reads (f a) w b → Reads (r >>= f) (v ++ w) b
+  pub then : (r : Reader A) (f : A → Reader B) (v w : List ℕ) (a : A) (b : B) → Reads r v a → Reads (f a) w b → Reads (r >>= f) (v ++ w) b
   unfolding _>>=_ onward Reads
   then r f v w a b h k x = rw (append-assoc, h (w ++ x)) (k x)
 
 -- reading nothing
-gives-it : {A : Type 0} (a : A) → Reads (give a) [] a
+pub gives-it : {A : Type 0} (a : A) → Reads (give a) [] a
 unfolding give Reads
 gives-it a x = refl
 
 -- the same bytes in another form
-reads-as : {A : Type 0} (r : Reader A) (v w : List ℕ) (a : A) → v ≡ w → Reads r v a → Reads r w a
+pub reads-as : {A : Type 0} (r : Reader A) (v w : List ℕ) (a : A) → v ≡ w → Reads r v a → Reads r w a
 reads-as r v w a e h = subst (λ (u : List ℕ). Reads r u a) e h
 
 -- n bytes
@@ -87,19 +87,19 @@ reads-bytes n v e x =
     rw (l, take-at v x n e, drop-at v x n e)
 
 -- a number of a width
-reads-number : (w n : ℕ) → n < 256 ^ w → Reads (readNumber w) (bytes w n) n
+pub reads-number : (w n : ℕ) → n < 256 ^ w → Reads (readNumber w) (bytes w n) n
 unfolding readNumber
 reads-number w n h =
     reads-as (readNumber w) (bytes w n ++ []) (bytes w n) n (append-nil (bytes w n))
     (then (readBytes w) (λ bs. give (number bs)) (bytes w n) [] (bytes w n) n (reads-bytes w (bytes w n) (bytes-length w n)) (rw bytes-number (gives-it n)))
 
 -- a key
-reads-key : (k : Key) → length k < 256 → Reads readKey (writeKey k) k
+pub reads-key : (k : Key) → length k < 256 → Reads readKey (writeKey k) k
 unfolding readKey writeKey
 reads-key k h = then (readNumber byteLong) (λ n. readBytes n) (bytes byteLong (length k)) k (length k) k (reads-number 1 (length k) h) (reads-bytes (length k) k refl)
 
 -- a file
-reads-file : (f : File) → Writable f → Reads readFile (writeFile f) f
+pub reads-file : (f : File) → Writable f → Reads readFile (writeFile f) f
 unfolding readFile writeFile
 reads-file f w =
     let n = f .number in
@@ -132,7 +132,7 @@ reads-times r w v (i ∷ is) h =
     (then r (λ a. times (length is) r >>= λ as′. give (a ∷ as′)) (w i) (join (map w is) ++ []) (v i) (v i ∷ map v is) (h i (here refl)) t)
 
 -- a section
-reads-section : {A : Type 0} (r : Reader A) (w : A → List ℕ) (xs : List A) → ((a : A) → In a xs → Reads r (w a) a) → length xs < 65536 → Reads (readSection r) (section w xs) xs
+pub reads-section : {A : Type 0} (r : Reader A) (w : A → List ℕ) (xs : List A) → ((a : A) → In a xs → Reads r (w a) a) → length xs < 65536 → Reads (readSection r) (section w xs) xs
 unfolding readSection section
 reads-section r w xs h few = then (readNumber countLong) (λ n. times n r) (bytes countLong (length xs)) (join (map w xs)) (length xs) xs
     (reads-number 2 (length xs) few) (subst (λ (ys : List _). Reads (times (length xs) r) (join (map w xs)) ys) (map-same xs) (reads-times r w (λ x. x) xs h))
@@ -293,7 +293,7 @@ as-read-formed p s w = record {
 
 -- ---- it writes the same bytes
 -- the state as read has the same snapshot
-as-read-bytes : (p : Profile) (s : State) → WF p s → encode (asRead s) ≡ encode s
+pub as-read-bytes : (p : Profile) (s : State) → WF p s → encode (asRead s) ≡ encode s
 unfolding asRead level inReadOrder sort
 as-read-bytes p s w = same-bytes (asRead s) s refl refl (λ l.
     let fs = getD (s .files) l [] in

@@ -27,6 +27,10 @@ numberLong = 8
 abbrev pub byteLong : ℕ
 byteLong = 1
 
+-- the number of counters
+abbrev pub counterCount : ℕ
+counterCount = 5
+
 -- the place of each counter; they begin a snapshot, after their count
 abbrev pub nextAt : ℕ
 nextAt = countLong

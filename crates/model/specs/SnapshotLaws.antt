@@ -289,7 +289,7 @@ writeFile-length f = omega (
 )
 
 -- the most bytes of a file
-file-most : (p : Profile) (f : File) → goodFile p f ≡ true → length (writeFile f) ≤ fileLong + 2 * (p .longest + trailerBytes)
+pub file-most : (p : Profile) (f : File) → goodFile p f ≡ true → length (writeFile f) ≤ fileLong + 2 * (p .longest + trailerBytes)
 file-most p f g = let k = file-facts p f g in omega (arith, writeFile-length f, k .smallest, k .largest)
 
 -- a pointer: two bytes and its key
