@@ -36,4 +36,6 @@ pub mod PatchedLaws
 pub mod DifferenceLengthLaws
 pub mod DifferenceReadingLaws
 pub mod DifferingLaws
+pub mod ComparedLaws
+pub mod OverlaidLaws
 pub mod DifferenceExamples
