@@ -53,7 +53,7 @@ use Rattle.store.proofs.is_well_formed.Met as tested-thm
 use Rattle.pick_plan.specs.declared.PickPlan.{PickPlan}
 use Rattle.pick_plan.specs.Plans.{RangePlanned, Plans}
 use Rattle.pick_search.proofs.Answered.{answered}
-use Rattle.pick_plan.proofs.Walks.{machK, machL}
+use Rattle.pick_plan.proofs.Walks.{machK, machL, asks-store}
 use Rattle.pick_plan.proofs.Reading.{opened, shut}
 use Rattle.pick_plan.proofs.PickPlan as L
 use Rattle.pick_plan.proofs.PickPlan.Laws as L′
@@ -108,8 +108,7 @@ module _ {M : Type 1} (𝓤 : URA M) (H : Heap 𝓤) (A : Atoms 𝓤) (W : Given
   to-tested = ((tt, tt, tt, (h, tt), (machS h ∷ [], tt)), tt)
 
   goes-tested : Is S.the-row h (machS h ∷ []) → ent 𝓤 (sem 𝓤 H A ftrue) (Tested 𝓤 H A at-mem run .pre to-tested)
-  goes-tested is =
-      qed W (‵ ftrue ∷ []) ∵ nothing ! $ owned ! S.the-row (Is S.the-row) (LL.makes S.the-type S′.the-plain 𝓤 H A) h _ is $ fjoin ! $ move ! (1 ∷ 0 ∷ []) $ join ! $ frame ! $ done !
+  goes-tested = asks-store 𝓤 H A W h
 
   abbrev Said-tested : Bool → SProp 𝓤
   Said-tested r = ensured 𝓤 H A tested.ended (tested.clauses 𝓤 H A at-mem run) tt (h, tt) tt r

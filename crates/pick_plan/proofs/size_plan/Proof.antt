@@ -59,7 +59,7 @@ use Rattle.pick_plan.specs.declared.PickPlan.{PickPlan}
 use Rattle.pick_plan.specs.Plans.{noPlan, Plans}
 use Rattle.pick_plan.specs.PlansLaws.{ill-planned}
 use Rattle.pick_search.proofs.Answered.{answered}
-use Rattle.pick_plan.proofs.Walks.{machL}
+use Rattle.pick_plan.proofs.Walks.{machL, asks-store}
 use Rattle.pick_plan.proofs.Reading.{opened, shut}
 use Rattle.pick_plan.proofs.PickPlan as L
 use Rattle.pick_plan.proofs.PickPlan.Laws as L′
@@ -148,8 +148,7 @@ module _ {M : Type 1} (𝓤 : URA M) (H : Heap 𝓤) (A : Atoms 𝓤) (W : Given
   to-look = ((tt, tt, tt, (h, tt), (machS h ∷ [], tt)), tt)
 
   goes-look : Is S.the-row h (machS h ∷ []) → ent 𝓤 (sem 𝓤 H A ftrue) (Looks 𝓤 H A at-mem run .pre to-look)
-  goes-look is =
-      qed W (‵ ftrue ∷ []) ∵ nothing ! $ owned ! S.the-row (Is S.the-row) (LL.makes S.the-type S′.the-plain 𝓤 H A) h _ is $ fjoin ! $ move ! (1 ∷ 0 ∷ []) $ join ! $ frame ! $ done !
+  goes-look = asks-store 𝓤 H A W h
 
   abbrev Said-look : Looked → SProp 𝓤
   Said-look r = ensured 𝓤 H A looking.ended (looking.clauses 𝓤 H A at-mem run) tt (h, tt) tt r
