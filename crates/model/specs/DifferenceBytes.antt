@@ -15,6 +15,19 @@ use Rattle.model.specs.Calls.{write, read}
 use Rattle.model.specs.Difference.{Difference, onlyLeft, onlyRight, changed, pointerIs, counterIs, differences, goodList}
 use Rattle.model.specs.Patched.{patched}
 
+-- ---- the kinds of an entry of files
+-- only the left has it
+abbrev pub leftKind : ℕ
+leftKind = 0
+
+-- only the right has it
+abbrev pub rightKind : ℕ
+rightKind = 1
+
+-- both have the number
+abbrev pub changedKind : ℕ
+changedKind = 2
+
 -- ---- writing: three sections, each after a 2-byte count: files, pointers, counters; nothing follows
 -- the section of an entry
 unfoldable pub sectionOf : Difference → ℕ
@@ -32,9 +45,9 @@ keyOf (some k) = k
 -- of files: 0, level 1, number 8 for one that only the left has; 1 or 2, level 1, then the file as in a snapshot for one that only the right has
 -- or that is changed. Of pointers: level 1, key length 1 (0 if it is not set), key. Of counters: place 1, number 8
 unfoldable pub writeDifference : Difference → List ℕ
-writeDifference (onlyLeft l n) = bytes byteLong 0 ++ (bytes byteLong l ++ bytes numberLong n)
-writeDifference (onlyRight l f) = bytes byteLong 1 ++ (bytes byteLong l ++ writeFile f)
-writeDifference (changed l f) = bytes byteLong 2 ++ (bytes byteLong l ++ writeFile f)
+writeDifference (onlyLeft l n) = bytes byteLong leftKind ++ (bytes byteLong l ++ bytes numberLong n)
+writeDifference (onlyRight l f) = bytes byteLong rightKind ++ (bytes byteLong l ++ writeFile f)
+writeDifference (changed l f) = bytes byteLong changedKind ++ (bytes byteLong l ++ writeFile f)
 writeDifference (pointerIs l o) = bytes byteLong l ++ writeKey (keyOf o)
 writeDifference (counterIs i v) = bytes byteLong i ++ bytes numberLong v
 
@@ -49,7 +62,7 @@ writeDifferences ds = section writeDifference (sectionAt 0 ds) ++ (section write
 -- ---- reading
 -- what follows the level in an entry of files, by its kind
 unfoldable pub readFileOf : ℕ → ℕ → Reader Difference
-readFileOf k l = cond (eqb k 0) (readNumber numberLong >>= λ n. give (onlyLeft l n)) (cond (eqb k 1) (readFile >>= λ f. give (onlyRight l f)) (readFile >>= λ f. give (changed l f)))
+readFileOf k l = cond (eqb k leftKind) (readNumber numberLong >>= λ n. give (onlyLeft l n)) (cond (eqb k rightKind) (readFile >>= λ f. give (onlyRight l f)) (readFile >>= λ f. give (changed l f)))
 
 -- an entry of files
 unfoldable pub readFileDifference : Reader Difference

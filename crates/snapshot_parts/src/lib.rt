@@ -8,7 +8,7 @@ ghost use Rattle.lemmas.specs.Lists.{all};
 ghost use Rattle.lemmas.specs.Little.{bytes};
 ghost use Rattle.lemmas.specs.Slices.{put};
 ghost use Rattle.model.specs.File.{keyRoom};
-ghost use Rattle.model.specs.Snapshot.{writeKey, writeFile, writeEntry, entries, section, fiveOf, countersLong, numberLong};
+ghost use Rattle.model.specs.Snapshot.{writeKey, writeFile, writeEntry, entries, section, sameBytes, fiveOf, countersLong, numberLong};
 ghost use Rattle.keys.specs.Key.{keyOf};
 ghost use Rattle.records.specs.Record.{fileOf, wellRecord};
 ghost use Rattle.counters.specs.Counters.{countersOf};
@@ -54,6 +54,37 @@ impl Snapshot {
     pub const LONGEST: usize = Snapshot::FRESH
         + Level::COUNT * (Snapshot::POINTER + Key::ROOM)
         + Version::ROOM * (Snapshot::FILE + 2 * Key::ROOM);
+}
+
+// Whether two lists of bytes are equal. Internal.
+pub fn same(a: &[u8], b: &[u8]) -> bool
+    ensures { λ r. ⌜ r ≡ sameBytes (now (a .entry)) (now (b .entry)) ⌝ }
+{
+    if a.len() != b.len() {
+        return false;
+    }
+    let mut i: usize = 0;
+    while i < a.len() {
+        if a[i] != b[i] {
+            return false;
+        }
+        i += 1;
+    }
+    true
+}
+
+// Writes bytes. Returns the place after them. Internal. Requires: the output has these places.
+pub fn put_bytes(out: &mut [u8], at: usize, src: &[u8]) -> usize
+    requires { ⌜ at + length (now src) ≤ length (now out) ⌝ }
+    ensures { λ r. ⌜ (r ≡ at + length (now (src .entry))) × (now (out .exit) ≡ put (now (out .entry)) at (now (src .entry))) ⌝ }
+{
+    let n = src.len();
+    let mut i: usize = 0;
+    while i < n {
+        out[at + i] = src[i];
+        i += 1;
+    }
+    at + n
 }
 
 // Writes the lowest `width` bytes of a number, the lowest first. Internal. Requires: the output has these places.

@@ -5,12 +5,10 @@ use mathlib.Core.Bool.{Bool, true, false}
 use mathlib.Core.List.{List, _++_}
 use mathlib.Core.Option.{Option, none, some}
 use native.Mathlib.Omega.{arith}
-use borrow.Author.Tests.{eq-eqb, ne-eqb}
-use lib.ListN.{length, getD, take, drop, drop-of-length-le}
+use lib.ListN.{length, take, drop}
 use lib.Seq.{take-at}
 use Rattle.lemmas.specs.Order.{clash}
 use Rattle.lemmas.specs.ListLaws.{and-left, and-right, both}
-use Rattle.lemmas.specs.Slices.{rest-cons}
 use Rattle.model.specs.Answer.{Answer, gives, refused, lent}
 use Rattle.model.specs.File.{State, full}
 use Rattle.model.specs.Calls as calls
@@ -30,34 +28,6 @@ use Rattle.snapshot_write.specs.declared.Written.the-variants.{Bytes, Refused}
 use Rattle.snapshot_write.specs.Writing.{writtenOf, snapshotOf}
 use Rattle.snapshot_write.specs.WritingLaws.{written-ill, written-well, snapshot-most}
 use Rattle.snapshot_read.specs.Reading.{writesThese}
-
--- ---- bytes compared
-
--- lists of different lengths are not equal
-pub lengths-differ : (a b : List ℕ) → (length a ≡ length b → ⊥) → sameBytes a b ≡ false
-lengths-differ a b h = go (sameBytes a b) refl
-  where
-    go : (t : Bool) → sameBytes a b ≡ t → sameBytes a b ≡ false
-    go false e = e
-    go true e = absurd (h (ap length (same-eq a b e)))
-
-module _ (a b : List ℕ) (i : ℕ) where
-  -- from a place on: the byte there, then those after it
-  module _ (h : i < length a) (k : i < length b) where
-    -- bytes that agree: those after them decide
-    pub bytes-agree : getD a i 0 ≡ getD b i 0 → sameBytes (drop i a) (drop i b) ≡ sameBytes (drop (i + 1) a) (drop (i + 1) b)
-    unfolding sameBytes
-    bytes-agree e = rw (rest-cons a i 0 h, rest-cons b i 0 k, eq-eqb (getD a i 0) (getD b i 0) e)
-
-    -- bytes that differ: not equal
-    pub bytes-differ : (getD a i 0 ≡ getD b i 0 → ⊥) → sameBytes (drop i a) (drop i b) ≡ false
-    unfolding sameBytes
-    bytes-differ e = rw (rest-cons a i 0 h, rest-cons b i 0 k, ne-eqb (getD a i 0) (getD b i 0) e)
-
-  -- no byte is left: equal
-  pub bytes-over : length a ≤ i → length b ≤ i → sameBytes (drop i a) (drop i b) ≡ true
-  unfolding sameBytes
-  bytes-over h k = rw (drop-of-length-le a h, drop-of-length-le b k)
 
 -- ---- the test of a store
 

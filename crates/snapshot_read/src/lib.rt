@@ -2,7 +2,6 @@
 ghost use mathlib.Core.Path.{_≡_};
 ghost use Rattle.model.specs.File.{full, fresh};
 ghost use Rattle.model.specs.Calls as calls;
-ghost use Rattle.model.specs.Snapshot.{sameBytes};
 ghost use Rattle.store.specs.Store.{storeOf, stored};
 ghost use Rattle.snapshot_read.specs.Reading.{writesThese};
 use answers::Outcome;
@@ -17,23 +16,6 @@ fn room() -> [u8; Snapshot::LONGEST] {
     [0u8; Snapshot::LONGEST]
 }
 
-// Whether two lists of bytes are equal.
-fn same(a: &[u8], b: &[u8]) -> bool
-    ensures { λ r. ⌜ r ≡ sameBytes (now (a .entry)) (now (b .entry)) ⌝ }
-{
-    if a.len() != b.len() {
-        return false;
-    }
-    let mut i: usize = 0;
-    while i < a.len() {
-        if a[i] != b[i] {
-            return false;
-        }
-        i += 1;
-    }
-    true
-}
-
 // Whether a store is well-formed and writes these very bytes.
 fn writes(s: Store, src: &[u8]) -> bool
     ensures { λ r. ⌜ r ≡ writesThese s (now (src .entry)) ⌝ }
@@ -42,7 +24,7 @@ fn writes(s: Store, src: &[u8]) -> bool
     let written = snapshot_write::write(s, &mut out);
     match written {
         Written::Refused(_) => false,
-        Written::Bytes(n) => same(&out[0..n], src),
+        Written::Bytes(n) => snapshot_parts::same(&out[0..n], src),
     }
 }
 

@@ -4,9 +4,9 @@ use mathlib.Core.Path.{_≡_, refl, sym, _∙_}
 use native.Mathlib.Omega.{arith}
 use lib.ListN.{length, drop}
 use Rattle.model.specs.Snapshot.{sameBytes}
-use Rattle.snapshot_read.specs.ReadingLaws.{lengths-differ, bytes-agree, bytes-differ, bytes-over}
-use Rattle.snapshot_read.proofs.same.Statement.{statement}
-use Rattle.snapshot_read.proofs.same.Tie as tie
+use Rattle.snapshot_parts.specs.SameLaws.{lengths-differ, bytes-agree, bytes-differ, bytes-over}
+use Rattle.snapshot_parts.proofs.same.Statement.{statement}
+use Rattle.snapshot_parts.proofs.same.Tie as tie
 
 abbrev Inv-loop : tie.InvT-loop
 Inv-loop a b i₀ i = (i ≤ length a) × (length a ≡ length b) × (sameBytes (drop i a) (drop i b) ≡ sameBytes a b)
