@@ -1,2 +1,5 @@
 pub mod Scan
+pub mod Turns
+pub mod Listing
 pub mod ScanLaws
+pub mod TurnLaws

@@ -57,40 +57,44 @@ module _ {A E : Type 0} (key : A → ℕ) (same : A → A → Bool) (left right 
 -- items in another form: where g keeps numbers and sameness, and h turns the entries of one form into those of the other, the lists are compared alike
 module _ {A B E F : Type 0} (key : A → ℕ) (same : A → A → Bool) (left right other : A → E) (key′ : B → ℕ) (same′ : B → B → Bool) (left′ right′ other′ : B → F) (g : A → B) (h : E → F) where
   pub compare-map : (xs ys : List A) → ((x : A) → In x xs → (key′ (g x) ≡ key x) × (left′ (g x) ≡ h (left x))) → ((y : A) → In y ys → (key′ (g y) ≡ key y) × (right′ (g y) ≡ h (right y)) × (other′ (g y) ≡ h (other y)))
-      → ((x y : A) → In x xs → In y ys → same′ (g x) (g y) ≡ same x y)
+      → ((x y : A) → In x xs → In y ys → key x ≡ key y → same′ (g x) (g y) ≡ same x y)
       → compare key′ same′ left′ right′ other′ (map g xs) (map g ys) ≡ map h (compare key same left right other xs ys)
   unfolding compare compareOne
   compare-map [] [] p q r = refl
   compare-map [] (y ∷ ys) p q r =
-      let ih = compare-map [] ys p (λ z m. q z (there m)) (λ x z k m. r x z k (there m)) in
+      let ih = compare-map [] ys p (λ z m. q z (there m)) (λ x z k m e. r x z k (there m) e) in
       ap (λ (e : F). e ∷ map right′ (map g ys)) (q y (here refl) .1) ∙ ap (λ (es : List F). h (right y) ∷ es) ih
-  compare-map (x ∷ xs) ys p q r = go ys (λ zs m. compare-map xs zs (λ z k. p z (there k)) (λ z k. q z (m z k)) (λ u z k l. r u z (there k) (m z l))) q (λ z m. r x z (here refl) m)
+  compare-map (x ∷ xs) ys p q r = go ys (λ zs m. compare-map xs zs (λ z k. p z (there k)) (λ z k. q z (m z k)) (λ u z k l e. r u z (there k) (m z l) e)) q (λ z m e. r x z (here refl) m e)
     where
       first : (key′ (g x) ≡ key x) × (left′ (g x) ≡ h (left x))
       first = p x (here refl)
 
       go : (zs : List A) → ((us : List A) → ((u : A) → In u us → In u zs) → compare key′ same′ left′ right′ other′ (map g xs) (map g us) ≡ map h (compare key same left right other xs us))
-          → ((z : A) → In z zs → (key′ (g z) ≡ key z) × (right′ (g z) ≡ h (right z)) × (other′ (g z) ≡ h (other z))) → ((z : A) → In z zs → same′ (g x) (g z) ≡ same x z)
+          → ((z : A) → In z zs → (key′ (g z) ≡ key z) × (right′ (g z) ≡ h (right z)) × (other′ (g z) ≡ h (other z))) → ((z : A) → In z zs → key x ≡ key z → same′ (g x) (g z) ≡ same x z)
           → compareOne key′ same′ left′ right′ other′ (g x) (compare key′ same′ left′ right′ other′ (map g xs)) (map g zs) ≡ map h (compareOne key same left right other x (compare key same left right other xs) zs)
       go [] ih q r = ap (λ (e : F). e ∷ compare key′ same′ left′ right′ other′ (map g xs) []) (first .1) ∙ ap (λ (es : List F). h (left x) ∷ es) (ih [] (λ u m. m))
       go (z ∷ zs) ih q r =
           let k = q z (here refl) in
           let whole = ih (z ∷ zs) (λ u m. m) in
           let tail = ih zs (λ u m. there m) in
-          let on = go zs (λ us m. ih us (λ u n. there (m u n))) (λ u m. q u (there m)) (λ u m. r u (there m)) in
-          rw (first .0, first .1, k .0, k .1, k .2, r z (here refl)) (turn (ltb (key z) (key x)) (ltb (key x) (key z)) (same x z) whole tail on)
+          let on = go zs (λ us m. ih us (λ u n. there (m u n))) (λ u m. q u (there m)) (λ u m e. r u (there m) e) in
+          rw (first .0, first .1, k .0, k .1, k .2) (turn (ltb (key z) (key x)) refl (ltb (key x) (key z)) refl (r z (here refl)) whole tail on)
         where
-          turn : (a b c : Bool) → compare key′ same′ left′ right′ other′ (map g xs) (map g (z ∷ zs)) ≡ map h (compare key same left right other xs (z ∷ zs))
+          turn : (a : Bool) → ltb (key z) (key x) ≡ a → (b : Bool) → ltb (key x) (key z) ≡ b → (key x ≡ key z → same′ (g x) (g z) ≡ same x z) → compare key′ same′ left′ right′ other′ (map g xs) (map g (z ∷ zs)) ≡ map h (compare key same left right other xs (z ∷ zs))
               → compare key′ same′ left′ right′ other′ (map g xs) (map g zs) ≡ map h (compare key same left right other xs zs)
               → compareOne key′ same′ left′ right′ other′ (g x) (compare key′ same′ left′ right′ other′ (map g xs)) (map g zs) ≡ map h (compareOne key same left right other x (compare key same left right other xs) zs)
               → cond a (h (right z) ∷ compareOne key′ same′ left′ right′ other′ (g x) (compare key′ same′ left′ right′ other′ (map g xs)) (map g zs))
-              (cond b (h (left x) ∷ compare key′ same′ left′ right′ other′ (map g xs) (g z ∷ map g zs)) (cond c (compare key′ same′ left′ right′ other′ (map g xs) (map g zs)) (h (other z) ∷ compare key′ same′ left′ right′ other′ (map g xs) (map g zs))))
+              (cond b (h (left x) ∷ compare key′ same′ left′ right′ other′ (map g xs) (g z ∷ map g zs)) (cond (same′ (g x) (g z)) (compare key′ same′ left′ right′ other′ (map g xs) (map g zs)) (h (other z) ∷ compare key′ same′ left′ right′ other′ (map g xs) (map g zs))))
               ≡ map h (cond a (right z ∷ compareOne key same left right other x (compare key same left right other xs) zs)
-              (cond b (left x ∷ compare key same left right other xs (z ∷ zs)) (cond c (compare key same left right other xs zs) (other z ∷ compare key same left right other xs zs))))
-          turn true b c whole tail on = ap (λ (es : List F). h (right z) ∷ es) on
-          turn false true c whole tail on = ap (λ (es : List F). h (left x) ∷ es) whole
-          turn false false true whole tail on = tail
-          turn false false false whole tail on = ap (λ (es : List F). h (other z) ∷ es) tail
+              (cond b (left x ∷ compare key same left right other xs (z ∷ zs)) (cond (same x z) (compare key same left right other xs zs) (other z ∷ compare key same left right other xs zs))))
+          turn true a b c d whole tail on = ap (λ (es : List F). h (right z) ∷ es) on
+          turn false a true c d whole tail on = ap (λ (es : List F). h (left x) ∷ es) whole
+          turn false a false c d whole tail on = rw (d (omega (arith, ltb-false (key z) (key x) a, ltb-false (key x) (key z) c))) (last (same x z))
+            where
+              last : (c : Bool) → cond c (compare key′ same′ left′ right′ other′ (map g xs) (map g zs)) (h (other z) ∷ compare key′ same′ left′ right′ other′ (map g xs) (map g zs))
+                  ≡ map h (cond c (compare key same left right other xs zs) (other z ∷ compare key same left right other xs zs))
+              last true = tail
+              last false = ap (λ (es : List F). h (other z) ∷ es) tail
 
 -- ---- one list laid over another
 -- an item stays unless an entry has its number; `brings` gives what an entry puts in its place, one item or none
