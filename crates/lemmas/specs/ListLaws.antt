@@ -118,20 +118,20 @@ module _ {A : Type 0} where
 -- ---- `keep`
 module _ {A : Type 0} where
   -- an item of the pushed list is the new one, or was there
-  push-in : (t : Bool) (x y : A) (ys : List A) → In x (push t y ys) → ((x ≡ y) × (t ≡ true)) ⊎ In x ys
+  pub push-in : (t : Bool) (x y : A) (ys : List A) → In x (push t y ys) → ((x ≡ y) × (t ≡ true)) ⊎ In x ys
   unfolding push
   push-in true x y ys (here e) = inl (e, refl)
   push-in true x y ys (there m) = inr m
   push-in false x y ys m = inr m
 
   -- what was there stays
-  push-tail : (t : Bool) (x y : A) (ys : List A) → In x ys → In x (push t y ys)
+  pub push-tail : (t : Bool) (x y : A) (ys : List A) → In x ys → In x (push t y ys)
   unfolding push
   push-tail true x y ys m = there m
   push-tail false x y ys m = m
 
   -- the new item is there if it was pushed
-  push-head : (t : Bool) (x y : A) (ys : List A) → t ≡ true → x ≡ y → In x (push t y ys)
+  pub push-head : (t : Bool) (x y : A) (ys : List A) → t ≡ true → x ≡ y → In x (push t y ys)
   unfolding push
   push-head true x y ys e q = here q
   push-head false x y ys e q = clash e refl
@@ -595,13 +595,19 @@ module _ {A : Type 0} where
   sub-length (skip s) = omega (arith, sub-length s)
   sub-length (also s) = omega (arith, sub-length s)
 
--- ---- neighbours without the first
+-- ---- neighbours without the first, and with one more
 module _ {A : Type 0} (r : A → A → Bool) where
   -- without the first item the neighbours still stand in r
   pub chain-rest : (x : A) (xs : List A) → chain r (x ∷ xs) ≡ true → chain r xs ≡ true
   unfolding chain
   chain-rest x [] c = refl
   chain-rest x (y ∷ ys) c = and-right (r x y) (chain r (y ∷ ys)) c
+
+  -- an item that stands in r to all others can go first
+  pub chain-cons : (y : A) (zs : List A) → chain r zs ≡ true → ((f : A) → In f zs → r y f ≡ true) → chain r (y ∷ zs) ≡ true
+  unfolding chain
+  chain-cons y [] c h = refl
+  chain-cons y (z ∷ zs) c h = both (r y z) (chain r (z ∷ zs)) (h z (here refl)) c
 
 -- ---- neighbours, where r is transitive through a good item between
 module _ {A : Type 0} (r : A → A → Bool) (Good : A → Type 0) (through : (f g h : A) → Good g → r f g ≡ true → r g h ≡ true → r f h ≡ true) where
@@ -618,12 +624,6 @@ module _ {A : Type 0} (r : A → A → Bool) (Good : A → Type 0) (through : (f
       go ih (here e) = subst (λ (f : A). r x f ≡ true) (sym e) step
       go ih (there k) = through x z y (g z (here refl)) step (ih k)
 
-  -- an item that stands in r to all others can go first
-  chain-cons : (y : A) (zs : List A) → chain r zs ≡ true → ((f : A) → In f zs → r y f ≡ true) → chain r (y ∷ zs) ≡ true
-  unfolding chain
-  chain-cons y [] c h = refl
-  chain-cons y (z ∷ zs) c h = both (r y z) (chain r (z ∷ zs)) (h z (here refl)) c
-
   -- leaving items out keeps neighbours in r
   pub sub-chain : {xs ys : List A} → ((f : A) → In f ys → Good f) → Sub xs ys → chain r ys ≡ true → chain r xs ≡ true
   sub-chain g end c = c
@@ -631,7 +631,7 @@ module _ {A : Type 0} (r : A → A → Bool) (Good : A → Type 0) (through : (f
   sub-chain g (also {y = y} {xs = xs} {ys = ys} s) c = go xs s (sub-chain (λ f i. g f (there i)) s (chain-rest r y ys c))
     where
       go : (zs : List A) → Sub zs ys → chain r zs ≡ true → chain r (y ∷ zs) ≡ true
-      go zs s c′ = chain-cons y zs c′ (λ f i. chain-first y f ys (λ f i. g f (there i)) c (sub-in f s i))
+      go zs s c′ = chain-cons r y zs c′ (λ f i. chain-first y f ys (λ f i. g f (there i)) c (sub-in f s i))
 
 -- ---- a sorted list stays as it is when sorted
 module _ {A : Type 0} (lt : A → A → Bool) where

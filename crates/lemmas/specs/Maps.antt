@@ -39,7 +39,7 @@ module _ {A B : Type 0} where
 -- ---- the list functions under map
 module _ {A B : Type 0} (f : A → B) where
   -- `push` under map
-  push-map : (t : Bool) (x : A) (ys : List A) → push t (f x) (map f ys) ≡ map f (push t x ys)
+  pub push-map : (t : Bool) (x : A) (ys : List A) → push t (f x) (map f ys) ≡ map f (push t x ys)
   unfolding push
   push-map true x ys = refl
   push-map false x ys = refl

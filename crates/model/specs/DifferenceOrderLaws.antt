@@ -38,7 +38,7 @@ unfolding earlier
 place-same d e q = rw q (lex-order .irrefl (place e))
 
 -- an entry of files stands at its level
-level-place : (s t : State) (l : ℕ) (d : Difference) → In d (atLevel s t l) → (n : ℕ) × (place d ≡ 0 ∷ l ∷ n ∷ [])
+pub level-place : (s t : State) (l : ℕ) (d : Difference) → In d (atLevel s t l) → (n : ℕ) × (place d ≡ 0 ∷ l ∷ n ∷ [])
 unfolding atLevel onlyLefts onlyRights changes place
 level-place s t l d m = go (append-cases (onlyLefts l (level s l) (level t l)) m)
   where
@@ -51,12 +51,12 @@ level-place s t l d m = go (append-cases (onlyLefts l (level s l) (level t l)) m
     go (inr k) = two (append-cases (onlyRights l (level s l) (level t l)) k)
 
 -- an entry of pointers
-pointer-place : (s t : State) (d : Difference) → In d (pointerDifferences s t) → (l : ℕ) × (place d ≡ 1 ∷ l ∷ [])
+pub pointer-place : (s t : State) (d : Difference) → In d (pointerDifferences s t) → (l : ℕ) × (place d ≡ 1 ∷ l ∷ [])
 unfolding pointerDifferences place
 pointer-place s t d m = let w = of-map (λ (l : ℕ). pointerIs l (pointer t l)) (keep (λ l. not (samePointer (pointer s l) (pointer t l))) (upFrom 0 (length (s .files)))) m in (w .0, ap place (sym (w .2)))
 
 -- an entry of counters
-counter-place : (s t : State) (d : Difference) → In d (counterDifferences s t) → (i : ℕ) × (place d ≡ 2 ∷ i ∷ [])
+pub counter-place : (s t : State) (d : Difference) → In d (counterDifferences s t) → (i : ℕ) × (place d ≡ 2 ∷ i ∷ [])
 unfolding counterDifferences place
 counter-place s t d m = let w = of-map (λ (i : ℕ). counterIs i (counterAt t i)) (keep (λ i. not (eqb (counterAt s i) (counterAt t i))) (upFrom 0 counterCount)) m in (w .0, ap place (sym (w .2)))
 

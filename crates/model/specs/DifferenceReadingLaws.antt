@@ -119,7 +119,7 @@ module _ (p : Profile) (fit : Fits p) where
 
 -- ---- a list in order is its three sections, one after another
 -- the place of an entry begins with its section
-section-place : (d : Difference) → (xs : List ℕ) × (place d ≡ sectionOf d ∷ xs)
+pub section-place : (d : Difference) → (xs : List ℕ) × (place d ≡ sectionOf d ∷ xs)
 unfolding place sectionOf
 section-place (onlyLeft l n) = (l ∷ n ∷ [], refl)
 section-place (onlyRight l f) = (l ∷ f .number ∷ [], refl)
@@ -158,18 +158,23 @@ section-ordered : (k : ℕ) (ds : List Difference) → chain earlier ds ≡ true
 unfolding sectionAt
 section-ordered k ds c = sub-chain earlier (λ d. Unit {0}) (λ a b d g. earlier-order .trans a b d) (λ d m. tt) (sub-keep (λ d. eqb (sectionOf d) k) ds) c
 
+-- three lists in order, one of each section, are in order one after another
+pub three-ordered : (a b c : List Difference) → ((d : Difference) → In d a → sectionOf d ≡ 0) → ((d : Difference) → In d b → sectionOf d ≡ 1) → ((d : Difference) → In d c → sectionOf d ≡ 2)
+    → chain earlier a ≡ true → chain earlier b ≡ true → chain earlier c ≡ true → chain earlier (a ++ (b ++ c)) ≡ true
+three-ordered a b c h₀ h₁ h₂ u v w =
+    strict-append earlier earlier-order a (b ++ c) u (strict-append earlier earlier-order b c v w (λ d e m k. section-earlier d e (omega (arith, h₁ d m, h₂ e k)))) (λ d e m k. first d e m (append-cases b k))
+  where
+    first : (d e : Difference) → In d a → In e b ⊎ In e c → earlier d e ≡ true
+    first d e m (inl k) = section-earlier d e (omega (arith, h₀ d m, h₁ e k))
+    first d e m (inr k) = section-earlier d e (omega (arith, h₀ d m, h₂ e k))
+
 -- so the sections joined are the list
 sections-back : (ds : List Difference) → chain earlier ds ≡ true → sectionAt 0 ds ++ (sectionAt 1 ds ++ sectionAt 2 ds) ≡ ds
 sections-back ds c = strict-one earlier earlier-order (sectionAt 0 ds ++ (sectionAt 1 ds ++ sectionAt 2 ds)) ds
-    (strict-append earlier earlier-order (sectionAt 0 ds) (sectionAt 1 ds ++ sectionAt 2 ds) (section-ordered 0 ds c)
-    (strict-append earlier earlier-order (sectionAt 1 ds) (sectionAt 2 ds) (section-ordered 1 ds c) (section-ordered 2 ds c) (λ d e m k. section-earlier d e (omega (arith, section-in 1 ds d .0 m .1, section-in 2 ds e .0 k .1))))
-    (λ d e m k. first d e m (append-cases (sectionAt 1 ds) k)))
+    (three-ordered (sectionAt 0 ds) (sectionAt 1 ds) (sectionAt 2 ds) (λ d m. section-in 0 ds d .0 m .1) (λ d m. section-in 1 ds d .0 m .1) (λ d m. section-in 2 ds d .0 m .1)
+    (section-ordered 0 ds c) (section-ordered 1 ds c) (section-ordered 2 ds c))
     c (λ d m. from d (append-cases (sectionAt 0 ds) m)) (λ d m. to d m (section-three d))
   where
-    first : (d e : Difference) → In d (sectionAt 0 ds) → In e (sectionAt 1 ds) ⊎ In e (sectionAt 2 ds) → earlier d e ≡ true
-    first d e m (inl k) = section-earlier d e (omega (arith, section-in 0 ds d .0 m .1, section-in 1 ds e .0 k .1))
-    first d e m (inr k) = section-earlier d e (omega (arith, section-in 0 ds d .0 m .1, section-in 2 ds e .0 k .1))
-
     two : (d : Difference) → In d (sectionAt 1 ds) ⊎ In d (sectionAt 2 ds) → In d ds
     two d (inl m) = section-in 1 ds d .0 m .0
     two d (inr m) = section-in 2 ds d .0 m .0

@@ -126,7 +126,7 @@ levels-apart u v g h k (suc n) e i l =
 
 -- ---- pointers
 -- every entry from level l on is at l or deeper
-entries-from : (l : ℕ) (ps : List (Option Key)) (e : Entry) → In e (entries l ps) → l ≤ e .level
+pub entries-from : (l : ℕ) (ps : List (Option Key)) (e : Entry) → In e (entries l ps) → l ≤ e .level
 unfolding entries
 entries-from l [] e m = absurd (not-nil m)
 entries-from l (none ∷ ps) e m = omega (arith, entries-from (suc l) ps e m)
