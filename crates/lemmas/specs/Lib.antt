@@ -14,6 +14,7 @@ pub mod Bisect
 pub mod Each
 pub mod Merge
 pub mod Compare
+pub mod OverlayLaws
 pub mod UpFrom
 pub mod Insertion
 pub mod Owned
