@@ -15,6 +15,7 @@ pub mod Each
 pub mod Merge
 pub mod Compare
 pub mod CompareLaws
+pub mod OverlayLaws
 pub mod UpFrom
 pub mod Insertion
 pub mod Owned

@@ -866,6 +866,12 @@ unfolding join
 joined-most w c [] h = omega arith
 joined-most w c (x ∷ xs) h = let a = h x (here refl) in let b = joined-most w c xs (λ y m. h y (there m)) in omega (arith, length-append (w x) (join (map w xs)))
 
+-- parts of at least one item joined have at least as many items as there are parts
+pub joined-least : {A B : Type 0} (w : A → List B) (xs : List A) → ((x : A) → In x xs → 1 ≤ length (w x)) → length xs ≤ length (join (map w xs))
+unfolding join
+joined-least w [] h = omega arith
+joined-least w (x ∷ xs) h = omega (arith, h x (here refl), joined-least w xs (λ y m. h y (there m)), length-append (w x) (join (map w xs)))
+
 -- the lists from k on, n of them, have no more items than all from k on
 pub stretch-few : {A : Type 0} (xss : List (List A)) (k n : ℕ) → sum (map (λ l. length (getD xss l [])) (upFrom k n)) ≤ length (join (drop k xss))
 unfolding sum upFrom join

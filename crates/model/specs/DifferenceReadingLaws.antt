@@ -15,11 +15,11 @@ use Rattle.lemmas.specs.ListLaws.{and-left, and-right, both, keep-in, keep-leng
 use Rattle.lemmas.specs.Little.{bytes}
 use Rattle.lemmas.specs.Once.{strict-one, strict-append}
 use Rattle.model.specs.Key.{Key}
-use Rattle.model.specs.File.{Profile, File, State, level, maxCounter, goodFile, goodPointer, Counters, full, maxSize}
+use Rattle.model.specs.File.{Profile, File, State, level, maxCounter, goodFile, goodPointer, Counters, full}
 use Rattle.model.specs.Snapshot.{fiveOf, sameBytes, writeKey, writeFile, section, Read, _>>=_, give, readNumber, readKey, readFile, readSection, byteLong, numberLong, counterCount}
 use Rattle.model.specs.KeyLaws.{goodKey-says}
 use Rattle.model.specs.Formed.{WF}
-use Rattle.model.specs.SnapshotLaws.{Fits, Writable, full-fits, file-facts}
+use Rattle.model.specs.SnapshotLaws.{Fits, writable, full-fits}
 use Rattle.model.specs.Reading.{same-eq, eq-same, Reads, then, gives-it, reads-as, reads-number, reads-key, reads-file, reads-section}
 use Rattle.model.specs.Difference.{Difference, onlyLeft, onlyRight, changed, pointerIs, counterIs, place, earlier, counterAt, differences, goodDifference, goodList, Listed}
 use Rattle.model.specs.DifferenceBytes.{sectionOf, keyOf, writeDifference, sectionAt, writeDifferences, readFileOf, readFileDifference, pointerOf, readPointerDifference, readCounterDifference, readDifferences, acceptList, decodeList}
@@ -38,13 +38,6 @@ pub full-lists : ListFits full
 unfolding full
 full-lists = record { fits = full-fits; entries = omega arith }
 
--- a good file can be written
-writable : (p : Profile) (f : File) → Fits p → goodFile p f ≡ true → f .number < 2 ^ 64 → Writable f
-unfolding maxSize
-writable p f fit g n =
-    let k = file-facts p f g in
-    record { number = omega arith; size = omega (arith, k .size); smallest = omega (arith, k .smallest, fit .keys); largest = omega (arith, k .largest, fit .keys) }
-
 -- a pointer of the bytes of a good pointer
 pointer-back : (p : Profile) (o : Option Key) → goodPointer p o ≡ true → pointerOf (keyOf o) ≡ o
 unfolding goodPointer pointerOf keyOf
@@ -53,7 +46,7 @@ pointer-back p (some []) h = absurd (omega (arith, goodKey-says (p .longest) [] 
 pointer-back p (some (b ∷ bs)) h = refl
 
 -- what is good about an entry
-two-tests : (a b c : Bool) → (a && (b && c)) ≡ true → (a ≡ true) × (b ≡ true) × (c ≡ true)
+pub two-tests : (a b c : Bool) → (a && (b && c)) ≡ true → (a ≡ true) × (b ≡ true) × (c ≡ true)
 two-tests a b c h = let r = and-right a (b && c) h in (and-left a (b && c) h, and-left b c r, and-right b c r)
 
 module _ (p : Profile) (fit : Fits p) where
@@ -137,7 +130,7 @@ section-earlier d e h =
     rw (v .1, w .1, q)
 
 -- the entries of a section
-section-in : (k : ℕ) (ds : List Difference) (d : Difference) → In d (sectionAt k ds) ↔ (In d ds × (sectionOf d ≡ k))
+pub section-in : (k : ℕ) (ds : List Difference) (d : Difference) → In d (sectionAt k ds) ↔ (In d ds × (sectionOf d ≡ k))
 unfolding sectionAt
 section-in k ds d = (
   λ m. let r = keep-in (λ d. eqb (sectionOf d) k) ds d .0 m in (r .0, eqb-true (sectionOf d) k (r .1)),

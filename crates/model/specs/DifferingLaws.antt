@@ -101,7 +101,7 @@ differing-says p left right room d h = go (decode p left) refl
     go (some s) e = next s e (decode p right) refl
 
 -- what a snapshot reads as is well-formed and writes it
-snapshot-says : (p : Profile) (bs : List ℕ) (s : State) → decode p bs ≡ some s → WF p s × (encode s ≡ bs)
+pub snapshot-says : (p : Profile) (bs : List ℕ) (s : State) → decode p bs ≡ some s → WF p s × (encode s ≡ bs)
 snapshot-says p bs s e = let r = decode-sound p bs s e in (formed-says p s .0 (r .0), r .1)
 
 -- nothing is listed if and only if the snapshots are equal bytes

@@ -119,7 +119,7 @@ brings-place l d f m = go (brings-says l d f m)
     go (inr e) = ap place e
 
 -- no number twice among what is kept and what is brought
-patched-distinct : (ds : List Difference) (l : ℕ) (fs : List File) → Once place ds → distinct (numbers fs) ≡ true
+pub patched-distinct : (ds : List Difference) (l : ℕ) (fs : List File) → Once place ds → distinct (numbers fs) ≡ true
     → distinct (numbers (keep (λ f. not (any (names l (f .number)) ds)) fs ++ join (map (brings l) ds))) ≡ true
 unfolding numbers
 patched-distinct ds l fs o d =
@@ -187,64 +187,51 @@ module _ (p : Profile) (s t : State) (ws : WF p s) (wt : WF p t) where
       )
 
 -- ---- pointers and counters after a list
-module _ (l : ℕ) (v : Option Key) where
-  -- an entry that says the same leaves it
-  by-same : (d : Difference) → ((o : Option Key) → d ≡ pointerIs l o → o ≡ v) → pointerBy l d v ≡ v
-  unfolding pointerBy
-  by-same (onlyLeft m k) h = refl
-  by-same (onlyRight m f) h = refl
-  by-same (changed m f) h = refl
-  by-same (pointerIs m o) h = go (eqb m l) refl
-    where
-      go : (b : Bool) → eqb m l ≡ b → cond b o v ≡ v
-      go true e = h o (ap (λ (k : ℕ). pointerIs k o) (eqb-true m l e))
-      go false e = refl
-  by-same (counterIs i w) h = refl
+-- what holds of the old pointer and of each one that an entry has for the level holds of the pointer after a list
+pub pointer-kept : (P : Option Key → Type 0) (l : ℕ) (ds : List Difference) (old : Option Key) → ((o : Option Key) → In (pointerIs l o) ds → P o) → P old → P (pointerAfter l ds old)
+unfolding pointerAfter pointerBy
+pointer-kept P l [] old h k = k
+pointer-kept P l (onlyLeft m n ∷ ds) old h k = pointer-kept P l ds old (λ o i. h o (there i)) k
+pointer-kept P l (onlyRight m f ∷ ds) old h k = pointer-kept P l ds old (λ o i. h o (there i)) k
+pointer-kept P l (changed m f ∷ ds) old h k = pointer-kept P l ds old (λ o i. h o (there i)) k
+pointer-kept P l (pointerIs m q ∷ ds) old h k = pointer-kept P l ds (cond (eqb m l) q old) (λ o i. h o (there i)) (go (eqb m l) refl)
+  where
+    go : (b : Bool) → eqb m l ≡ b → P (cond b q old)
+    go true e = h q (here (ap (λ (n : ℕ). pointerIs n q) (sym (eqb-true m l e))))
+    go false e = k
+pointer-kept P l (counterIs i v ∷ ds) old h k = pointer-kept P l ds old (λ o i. h o (there i)) k
 
-  -- every pointer for the level is this one, and so was the old: it stays
-  pointer-stays : (ds : List Difference) → ((o : Option Key) → In (pointerIs l o) ds → o ≡ v) → pointerAfter l ds v ≡ v
-  unfolding pointerAfter
-  pointer-stays [] h = refl
-  pointer-stays (d ∷ ds) h = ap (pointerAfter l ds) (by-same d (λ o e. h o (here (sym e)))) ∙ pointer-stays ds (λ o m. h o (there m))
-
-  -- every pointer for the level is this one, and there is one: it comes
-  pointer-comes : (ds : List Difference) (old : Option Key) → ((o : Option Key) → In (pointerIs l o) ds → o ≡ v) → In (pointerIs l v) ds → pointerAfter l ds old ≡ v
-  unfolding pointerAfter pointerBy
-  pointer-comes (d ∷ ds) old h (here e) =
-      let q : eqb l l ≡ true = eq-eqb l l refl in
-      let r : pointerBy l (pointerIs l v) old ≡ v = rw q in
-      ap (pointerAfter l ds) (ap (λ (x : Difference). pointerBy l x old) (sym e) ∙ r) ∙ pointer-stays ds (λ o m. h o (there m))
-  pointer-comes (d ∷ ds) old h (there m) = pointer-comes ds (pointerBy l d old) (λ o k. h o (there k)) m
+-- every pointer for the level is this one, and there is one: it comes
+pointer-comes : (l : ℕ) (v : Option Key) (ds : List Difference) (old : Option Key) → ((o : Option Key) → In (pointerIs l o) ds → o ≡ v) → In (pointerIs l v) ds → pointerAfter l ds old ≡ v
+unfolding pointerAfter pointerBy
+pointer-comes l v (d ∷ ds) old h (here e) =
+    let q : eqb l l ≡ true = eq-eqb l l refl in
+    let r : pointerBy l (pointerIs l v) old ≡ v = rw q in
+    pointer-kept (λ o. o ≡ v) l ds (pointerBy l d old) (λ o m. h o (there m)) (ap (λ (x : Difference). pointerBy l x old) (sym e) ∙ r)
+pointer-comes l v (d ∷ ds) old h (there m) = pointer-comes l v ds (pointerBy l d old) (λ o k. h o (there k)) m
 
 -- the same for counters
-module _ (i v : ℕ) where
-  -- an entry that says the same leaves it
-  count-same : (d : Difference) → ((w : ℕ) → d ≡ counterIs i w → w ≡ v) → counterBy i d v ≡ v
-  unfolding counterBy
-  count-same (onlyLeft m k) h = refl
-  count-same (onlyRight m f) h = refl
-  count-same (changed m f) h = refl
-  count-same (pointerIs m o) h = refl
-  count-same (counterIs j w) h = go (eqb j i) refl
-    where
-      go : (b : Bool) → eqb j i ≡ b → cond b w v ≡ v
-      go true e = h w (ap (λ (k : ℕ). counterIs k w) (eqb-true j i e))
-      go false e = refl
+pub counter-kept : (P : ℕ → Type 0) (i : ℕ) (ds : List Difference) (old : ℕ) → ((v : ℕ) → In (counterIs i v) ds → P v) → P old → P (counterAfter i ds old)
+unfolding counterAfter counterBy
+counter-kept P i [] old h k = k
+counter-kept P i (onlyLeft m n ∷ ds) old h k = counter-kept P i ds old (λ v j. h v (there j)) k
+counter-kept P i (onlyRight m f ∷ ds) old h k = counter-kept P i ds old (λ v j. h v (there j)) k
+counter-kept P i (changed m f ∷ ds) old h k = counter-kept P i ds old (λ v j. h v (there j)) k
+counter-kept P i (pointerIs m o ∷ ds) old h k = counter-kept P i ds old (λ v j. h v (there j)) k
+counter-kept P i (counterIs m q ∷ ds) old h k = counter-kept P i ds (cond (eqb m i) q old) (λ v j. h v (there j)) (go (eqb m i) refl)
+  where
+    go : (b : Bool) → eqb m i ≡ b → P (cond b q old)
+    go true e = h q (here (ap (λ (n : ℕ). counterIs n q) (sym (eqb-true m i e))))
+    go false e = k
 
-  -- every number for the counter is this one, and so was the old: it stays
-  counter-stays : (ds : List Difference) → ((w : ℕ) → In (counterIs i w) ds → w ≡ v) → counterAfter i ds v ≡ v
-  unfolding counterAfter
-  counter-stays [] h = refl
-  counter-stays (d ∷ ds) h = ap (counterAfter i ds) (count-same d (λ o e. h o (here (sym e)))) ∙ counter-stays ds (λ o m. h o (there m))
-
-  -- every number for the counter is this one, and there is one: it comes
-  counter-comes : (ds : List Difference) (old : ℕ) → ((w : ℕ) → In (counterIs i w) ds → w ≡ v) → In (counterIs i v) ds → counterAfter i ds old ≡ v
-  unfolding counterAfter counterBy
-  counter-comes (d ∷ ds) old h (here e) =
-      let q : eqb i i ≡ true = eq-eqb i i refl in
-      let r : counterBy i (counterIs i v) old ≡ v = rw q in
-      ap (counterAfter i ds) (ap (λ (x : Difference). counterBy i x old) (sym e) ∙ r) ∙ counter-stays ds (λ o m. h o (there m))
-  counter-comes (d ∷ ds) old h (there m) = counter-comes ds (counterBy i d old) (λ o k. h o (there k)) m
+-- every number for the counter is this one, and there is one: it comes
+counter-comes : (i v : ℕ) (ds : List Difference) (old : ℕ) → ((w : ℕ) → In (counterIs i w) ds → w ≡ v) → In (counterIs i v) ds → counterAfter i ds old ≡ v
+unfolding counterAfter counterBy
+counter-comes i v (d ∷ ds) old h (here e) =
+    let q : eqb i i ≡ true = eq-eqb i i refl in
+    let r : counterBy i (counterIs i v) old ≡ v = rw q in
+    counter-kept (λ w. w ≡ v) i ds (counterBy i d old) (λ w m. h w (there m)) (ap (λ (x : Difference). counterBy i x old) (sym e) ∙ r)
+counter-comes i v (d ∷ ds) old h (there m) = counter-comes i v ds (counterBy i d old) (λ w k. h w (there k)) m
 
 module _ (p : Profile) (s t : State) (ws : WF p s) (wt : WF p t) where
   -- a pointer after the list is the right's
@@ -256,7 +243,7 @@ module _ (p : Profile) (s t : State) (ws : WF p s) (wt : WF p t) where
       right o m = listed-sound s t (pointerIs l o) m .0
 
       go : (b : Bool) → samePointer (pointer s l) (pointer t l) ≡ b → pointerAfter l (differences s t) (pointer s l) ≡ pointer t l
-      go true e = ap (pointerAfter l (differences s t)) (pointer-says (pointer s l) (pointer t l) .0 e) ∙ pointer-stays l (pointer t l) (differences s t) right
+      go true e = pointer-kept (λ o. o ≡ pointer t l) l (differences s t) (pointer s l) right (pointer-says (pointer s l) (pointer t l) .0 e)
       go false e = pointer-comes l (pointer t l) (differences s t) (pointer s l) right
           (listed-complete p s t ws wt (pointerIs l (pointer t l)) (refl, λ q. clash (pointer-says (pointer s l) (pointer t l) .1 q) e))
 
@@ -269,7 +256,7 @@ module _ (p : Profile) (s t : State) (ws : WF p s) (wt : WF p t) where
       right v m = listed-sound s t (counterIs i v) m .0
 
       go : (b : Bool) → eqb (counterAt s i) (counterAt t i) ≡ b → counterAfter i (differences s t) (counterAt s i) ≡ counterAt t i
-      go true e = ap (counterAfter i (differences s t)) (eqb-true (counterAt s i) (counterAt t i) e) ∙ counter-stays i (counterAt t i) (differences s t) right
+      go true e = counter-kept (λ v. v ≡ counterAt t i) i (differences s t) (counterAt s i) right (eqb-true (counterAt s i) (counterAt t i) e)
       go false e = counter-comes i (counterAt t i) (differences s t) (counterAt s i) right (listed-complete p s t ws wt (counterIs i (counterAt t i)) (refl, eqb-false (counterAt s i) (counterAt t i) e))
 
   -- the files
@@ -327,7 +314,7 @@ pub pointer-after : (l : ℕ) (ds : List Difference) (old : Option Key) → chai
 unfolding place
 pointer-after l ds old c = (
   λ o m. pointer-comes l o ds old (λ q k. same q o (once-one place ds (strict-once earlier earlier-order place place-same ds c) (pointerIs l q) (pointerIs l o) k m refl)) m,
-  λ h. pointer-stays l old ds (λ o m. absurd (h o m)),
+  λ h. pointer-kept (λ o. o ≡ old) l ds old (λ o m. absurd (h o m)) refl,
 )
   where
     same : (a b : Option Key) → pointerIs l a ≡ pointerIs l b → a ≡ b
@@ -339,7 +326,7 @@ pub counter-after : (i : ℕ) (ds : List Difference) (old : ℕ) → chain earli
 unfolding place
 counter-after i ds old c = (
   λ v m. counter-comes i v ds old (λ q k. same q v (once-one place ds (strict-once earlier earlier-order place place-same ds c) (counterIs i q) (counterIs i v) k m refl)) m,
-  λ h. counter-stays i old ds (λ v m. absurd (h v m)),
+  λ h. counter-kept (λ v. v ≡ old) i ds old (λ v m. absurd (h v m)) refl,
 )
   where
     same : (a b : ℕ) → counterIs i a ≡ counterIs i b → a ≡ b

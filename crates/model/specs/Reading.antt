@@ -186,7 +186,7 @@ unfolding upFrom
 seven-levels s w = reads-times readLevel (λ l. writeLevel (level s l)) (λ l. inReadOrder (level s l)) (upFrom 0 levelCount) (λ l m. reads-level (level s l) (w .levels l))
 
 -- a state
-reads-state : (p : Profile) (s : State) → Storable s → length (s .files) ≡ p .levels → length (s .pointers) ≡ p .levels → p .levels ≤ levelCount → Reads (readState p) (encode s) (asRead s)
+pub reads-state : (p : Profile) (s : State) → Storable s → length (s .files) ≡ p .levels → length (s .pointers) ≡ p .levels → p .levels ≤ levelCount → Reads (readState p) (encode s) (asRead s)
 unfolding readState encode asRead level fiveOf fromFive
 reads-state p s w nf np small =
     let ns = fiveOf (s .counters) in
@@ -292,15 +292,18 @@ as-read-formed p s w = record {
     )
 
 -- ---- it writes the same bytes
+-- a level as it is read has its files by number in the same order
+pub read-by-number : (fs : List File) → distinct (numbers fs) ≡ true → sort byNumber (inReadOrder fs) ≡ sort byNumber fs
+unfolding inReadOrder
+read-by-number fs d = same-by-number (inReadOrder fs) fs (sort-distinct bySmallest (sort byNumber fs) (sort-distinct byNumber fs d)) d
+    (λ f. (λ m. sort-in byNumber fs f .0 (sort-in bySmallest (sort byNumber fs) f .0 m), λ m. sort-in bySmallest (sort byNumber fs) f .1 (sort-in byNumber fs f .1 m)))
+
 -- the state as read has the same snapshot
 pub as-read-bytes : (p : Profile) (s : State) → WF p s → encode (asRead s) ≡ encode s
 unfolding asRead level inReadOrder sort
 as-read-bytes p s w = same-bytes (asRead s) s refl refl (λ l.
-    let fs = getD (s .files) l [] in
-    let d = distinct-level (s .files) l (w .distinct-numbers) in
-    let e : getD (map inReadOrder (s .files)) l [] ≡ inReadOrder fs = List·getD-map inReadOrder (s .files) l [] in
-    ap (λ (gs : List File). sort byNumber gs) e ∙ same-by-number (inReadOrder fs) fs (sort-distinct bySmallest (sort byNumber fs) (sort-distinct byNumber fs d)) d
-    (λ f. (λ m. sort-in byNumber fs f .0 (sort-in bySmallest (sort byNumber fs) f .0 m), λ m. sort-in bySmallest (sort byNumber fs) f .1 (sort-in byNumber fs f .1 m))))
+    let e : getD (map inReadOrder (s .files)) l [] ≡ inReadOrder (getD (s .files) l []) = List·getD-map inReadOrder (s .files) l [] in
+    ap (λ (gs : List File). sort byNumber gs) e ∙ read-by-number (getD (s .files) l []) (distinct-level (s .files) l (w .distinct-numbers)))
 
 -- ---- writing and reading back
 -- every well-formed state is read back, level 0 ties by rising number

@@ -1,15 +1,21 @@
 -- A snapshot determines the state that it was written from, since each part shows where it ends. Assumes nothing.
 use Prim.Native.Nat.{ℕ, zero, suc, _+_, _*_, _^_, _<_, _≤_}
 use mathlib.Core.Path.{_≡_, refl, ap, sym, _∙_, subst, fun-ext}
-use mathlib.Core.Bool.{true}
+use mathlib.Core.Logic.{_↔_}
+use mathlib.Core.Bool.{Bool, true, false}
 use mathlib.Core.List.{List, [], _∷_, _++_, List·Memᴰ as In, map, List·Memᴰ·head as here, List·Memᴰ·tail as there, List·Memᴰ·not-nil as not-nil, append-assoc}
 use mathlib.Core.Option.{Option, none, some}
-use lib.ListN.{length, getD, set, length-append}
+use borrow.Author.Tests.{ltb-true, ltb-false}
+use lib.Dec.{ltb}
+use lib.ListN.{length, getD, set, length-append, List·getD-eq-default}
 use native.Mathlib.Nat.{mul-le-mul-right, add-mul}
 use native.Mathlib.Omega.{arith}
-use Rattle.lemmas.specs.Lists.{sort, join, sum, upFrom}
-use Rattle.lemmas.specs.ListLaws.{sort-in, sort-length, join-in, join-length, append-apart, joined-most, stretch-few}
+use Rattle.lemmas.specs.Order.{clash}
+use Rattle.lemmas.specs.Lists.{sort, chain, join, sum, upFrom}
+use Rattle.lemmas.specs.ListLaws.{sort-in, sort-length, join-in, join-length, append-apart, joined-most, joined-least, stretch-few}
 use Rattle.lemmas.specs.Little.{bytes, bytes-length, bytes-apart}
+use Rattle.lemmas.specs.UpFrom.{made-at}
+use Rattle.lemmas.specs.OverlayLaws.{rising, rising-cons}
 use Rattle.model.specs.Key.{Key, goodKey, trailerBytes}
 use Rattle.model.specs.File.{Profile, full, File, Counters, State, level, maxCounter, maxSize, goodFile, apart, goodPointer, levelCount}
 use Rattle.model.specs.Snapshot.{byNumber, writeKey, writeFile, Entry, entries, writeEntry, section, writeLevel, fiveOf, encode, fileLong, entryLong, freshLong, longestSnapshot, byteLong, countLong, numberLong}
@@ -125,13 +131,37 @@ levels-apart u v g h k (suc n) e i l =
     go ih t (suc j) b = at (suc k + j) (k + suc j) (omega arith) (ih j (omega arith))
 
 -- ---- pointers
--- every entry from level l on is at l or deeper
-pub entries-from : (l : ℕ) (ps : List (Option Key)) (e : Entry) → In e (entries l ps) → l ≤ e .level
+-- from level l on, an entry is a pointer that is set, and stands at its level
+pub entries-from : (l : ℕ) (ps : List (Option Key)) (e : Entry) → In e (entries l ps) → (i : ℕ) × (e .level ≡ l + i) × (getD ps i none ≡ some (e .key))
 unfolding entries
 entries-from l [] e m = absurd (not-nil m)
-entries-from l (none ∷ ps) e m = omega (arith, entries-from (suc l) ps e m)
-entries-from l (some k ∷ ps) e (here q) = omega (arith, ap (λ (x : Entry). x .level) q)
-entries-from l (some k ∷ ps) e (there m) = omega (arith, entries-from (suc l) ps e m)
+entries-from l (none ∷ ps) e m = let w = entries-from (suc l) ps e m in (suc (w .0), omega (arith, w .1), w .2)
+entries-from l (some k ∷ ps) e (here q) = (0, omega (arith, ap (λ (x : Entry). x .level) q), ap (λ (x : Entry). some (x .key)) (sym q))
+entries-from l (some k ∷ ps) e (there m) = let w = entries-from (suc l) ps e m in (suc (w .0), omega (arith, w .1), w .2)
+
+-- each pointer that is set has an entry
+entries-to : (l : ℕ) (ps : List (Option Key)) (i : ℕ) (k : Key) → getD ps i none ≡ some k → In (record { level = l + i; key = k }) (entries l ps)
+unfolding entries
+entries-to l [] zero k q = let z : true ≡ false = cc in clash refl z
+entries-to l [] (suc i) k q = let z : true ≡ false = cc in clash refl z
+entries-to l (none ∷ ps) zero k q = let z : true ≡ false = cc in clash refl z
+entries-to l (some j ∷ ps) zero k q = let n : l + 0 ≡ l = omega arith in let r : k ≡ j = cc in here (λ i. record { level = n i; key = r i })
+entries-to l (none ∷ ps) (suc i) k q = let n : suc l + i ≡ l + suc i = omega arith in subst (λ (m : ℕ). In (record { level = m; key = k }) (entries (suc l) ps)) n (entries-to (suc l) ps i k q)
+entries-to l (some j ∷ ps) (suc i) k q = let n : suc l + i ≡ l + suc i = omega arith in there (subst (λ (m : ℕ). In (record { level = m; key = k }) (entries (suc l) ps)) n (entries-to (suc l) ps i k q))
+
+-- so there is an entry exactly where the pointer of its level is its key
+pub entries-in : (ps : List (Option Key)) (e : Entry) → In e (entries 0 ps) ↔ (getD ps (e .level) none ≡ some (e .key))
+entries-in ps e = (
+  λ m. let w = entries-from 0 ps e m in let q : w .0 ≡ e .level = omega (arith, w .1) in subst (λ (i : ℕ). getD ps i none ≡ some (e .key)) q (w .2),
+  λ h. let q : 0 + e .level ≡ e .level = omega arith in subst (λ (i : ℕ). In (record { level = i; key = e .key }) (entries 0 ps)) q (entries-to 0 ps (e .level) (e .key) h),
+)
+
+-- they rise by level
+pub entries-rise : (l : ℕ) (ps : List (Option Key)) → rising (λ (e : Entry). e .level) (entries l ps) ≡ true
+unfolding entries chain
+entries-rise l [] = refl
+entries-rise l (none ∷ ps) = entries-rise (suc l) ps
+entries-rise l (some k ∷ ps) = rising-cons (λ (e : Entry). e .level) (record { level = l; key = k }) (entries (suc l) ps) (entries-rise (suc l) ps) (λ e m. omega (arith, entries-from (suc l) ps e m .1))
 
 -- the entries determine the pointers
 entries-same : (l : ℕ) (ps qs : List (Option Key)) → length ps ≡ length qs → entries l ps ≡ entries l qs → ps ≡ qs
@@ -140,8 +170,8 @@ entries-same l [] [] n e = refl
 entries-same l [] (q ∷ qs) n e = absurd (omega arith)
 entries-same l (p ∷ ps) [] n e = absurd (omega arith)
 entries-same l (none ∷ ps) (none ∷ qs) n e = let t = entries-same (suc l) ps qs (omega arith) e in cc
-entries-same l (none ∷ ps) (some k ∷ qs) n e = absurd (omega (arith, entries-from (suc l) ps (record { level = l; key = k }) (subst (λ (es : List Entry). In (record { level = l; key = k }) es) (sym e) (here refl))))
-entries-same l (some k ∷ ps) (none ∷ qs) n e = absurd (omega (arith, entries-from (suc l) qs (record { level = l; key = k }) (subst (λ (es : List Entry). In (record { level = l; key = k }) es) e (here refl))))
+entries-same l (none ∷ ps) (some k ∷ qs) n e = absurd (omega (arith, entries-from (suc l) ps (record { level = l; key = k }) (subst (λ (es : List Entry). In (record { level = l; key = k }) es) (sym e) (here refl)) .1))
+entries-same l (some k ∷ ps) (none ∷ qs) n e = absurd (omega (arith, entries-from (suc l) qs (record { level = l; key = k }) (subst (λ (es : List Entry). In (record { level = l; key = k }) es) e (here refl)) .1))
 entries-same l (some k ∷ ps) (some j ∷ qs) n e =
     let h : _≡_ {A = Entry} (record { level = l; key = k }) (record { level = l; key = j }) = cc in
     let q : k ≡ j = ap (λ (x : Entry). x .key) h in
@@ -229,26 +259,32 @@ entries-among l (none ∷ ps) e m = let r = entries-among (suc l) ps e m in (ome
 entries-among l (some k ∷ ps) e (here q) = (omega (arith, ap (λ (x : Entry). x .level) q), here (ap (λ (x : Entry). some (x .key)) q))
 entries-among l (some k ∷ ps) e (there m) = let r = entries-among (suc l) ps e m in (omega (arith, r .0), there (r .1))
 
+-- a good file can be written
+pub writable : (p : Profile) (f : File) → Fits p → goodFile p f ≡ true → f .number < 2 ^ 64 → Writable f
+unfolding maxSize
+writable p f fit g n =
+    let k = file-facts p f g in
+    record { number = omega arith; size = omega (arith, k .size); smallest = omega (arith, k .smallest, fit .keys); largest = omega (arith, k .largest, fit .keys) }
+
+-- a state fits in a snapshot if its files, pointers and counters are good, it has a pointer for each level, and no level has too many files
+pub good-storable : (p : Profile) (s : State) → Fits p → ((l : ℕ) (f : File) → In f (level s l) → (goodFile p f ≡ true) × (f .number < 2 ^ 64)) → ((l : ℕ) → length (level s l) < 65536)
+    → length (s .pointers) ≡ p .levels → ((o : Option Key) → In o (s .pointers) → goodPointer p o ≡ true) → ((n : ℕ) → In n (fiveOf (s .counters)) → n ≤ maxCounter) → Storable s
+unfolding goodPointer
+good-storable p s fit files few levels pointers counters = record {
+  counters = λ n m. omega (arith, counters n m);
+  pointers = λ e m. let r = entries-among 0 (s .pointers) e m in record {
+    level = omega (arith, r .0, levels, fit .levels);
+    key = omega (arith, goodKey-says (p .longest) (e .key) .0 (pointers (some (e .key)) (r .1)) .few-bytes, fit .keys);
+  };
+  few-pointers = omega (arith, entries-few 0 (s .pointers), levels, fit .levels);
+  levels = λ l. record { files = λ f m. let g = files l f m in writable p f fit (g .0) (g .1); few = omega (arith, sort-length byNumber (level s l), few l) };
+}
+
 -- a well-formed state fits in a snapshot
 pub storable : (p : Profile) (s : State) → Fits p → WF p s → Storable s
-unfolding goodPointer level
-storable p s fit w = record {
-  counters = λ n m. omega (arith, w .counters n m);
-  pointers = λ e m. let r = entries-among 0 (s .pointers) e m in record {
-    level = omega (arith, r .0, w .pointer-levels, fit .levels);
-    key = omega (arith, goodKey-says (p .longest) (e .key) .0 (w .pointers (some (e .key)) (r .1)) .few-bytes, fit .keys);
-  };
-  few-pointers = omega (arith, entries-few 0 (s .pointers), w .pointer-levels, fit .levels);
-  levels = λ l. record {
-    files = λ f m. let i = join-in (s .files) l f m in let k = file-facts p f (w .good f i) in record {
-      number = omega (arith, w .words f i);
-      size = omega (arith, k .size);
-      smallest = omega (arith, k .smallest, fit .keys);
-      largest = omega (arith, k .largest, fit .keys);
-    };
-    few = omega (arith, sort-length byNumber (getD (s .files) l []), join-length (s .files) l, w .room, fit .room);
-  };
-}
+unfolding level
+storable p s fit w = good-storable p s fit (λ l f m. let i = join-in (s .files) l f m in (w .good f i, w .words f i)) (λ l. omega (arith, join-length (s .files) l, w .room, fit .room))
+    (w .pointer-levels) (w .pointers) (w .counters)
 
 -- ---- the length of a snapshot, and what its bytes depend on
 -- the bytes depend on the counters, the pointers and the files by number alone
@@ -325,6 +361,28 @@ levels-most p s w k (suc n) =
     let d : (length fs + sum (map (λ l. length (getD (s .files) l [])) (upFrom (suc k) n))) * c ≡ length fs * c + sum (map (λ l. length (getD (s .files) l [])) (upFrom (suc k) n)) * c
     = add-mul (length fs) (sum (map (λ l. length (getD (s .files) l [])) (upFrom (suc k) n))) c in
     omega (arith, length-append (section writeFile (sort byNumber fs)) r)
+
+-- a level has no more files than a snapshot has bytes
+pub level-few : (s : State) → length (s .files) ≤ levelCount → (l : ℕ) → length (level s l) ≤ length (encode s)
+unfolding encode writeLevel level
+level-few s h l = go (ltb l levelCount) refl
+  where
+    go : (t : Bool) → ltb l levelCount ≡ t → length (getD (s .files) l []) ≤ length (encode s)
+    go true e =
+        let fs = getD (s .files) l [] in
+        let wl : ℕ → List ℕ = λ l. section writeFile (sort byNumber (getD (s .files) l [])) in
+        let all = join (map wl (upFrom 0 levelCount)) in
+        let at : getD (map wl (upFrom 0 levelCount)) l [] ≡ section writeFile (sort byNumber fs) = made-at wl levelCount l [] (ltb-true l levelCount e) in
+        omega (
+          arith,
+          sort-length byNumber fs,
+          joined-least writeFile (sort byNumber fs) (λ f m. omega (arith, writeFile-length f)),
+          section-length writeFile (sort byNumber fs),
+          ap length at,
+          join-length (map wl (upFrom 0 levelCount)) l,
+          length-append (section (bytes numberLong) (fiveOf (s .counters)) ++ section writeEntry (entries 0 (s .pointers))) all,
+        )
+    go false e = let q : getD (s .files) l [] ≡ [] = List·getD-eq-default (s .files) [] (omega (arith, ltb-false l levelCount e)) in omega (arith, ap length q)
 
 -- the most bytes of a snapshot
 pub encode-length : (p : Profile) (s : State) → WF p s → length (encode s) ≤ freshLong + p .levels * (entryLong + (p .longest + trailerBytes)) + p .room * (fileLong + 2 * (p .longest + trailerBytes))
