@@ -1,69 +1,114 @@
+-- `put_entry` meets its contract. Assumes nothing.
+use native.Mathlib.Omega.{arith}
 use borrow.Author.Needs.{needs}
+use Rattle.difference_scan.specs.ScanLaws.{same-laid, head-short, right-long, right-laid, left-long, left-laid}
 use Rattle.difference_scan.proofs.put_entry.Statement.{statement}
 use Rattle.difference_scan.proofs.put_entry.Tie as tie
-use Rattle.difference_scan.proofs.put_entry.Reads as reads
-use Rattle.difference_scan.proofs.put_entry.Lts as lts
-use Rattle.difference_scan.proofs.put_head.Reads as put-head-reads
-use Rattle.difference_scan.proofs.put_tail.Reads as put-tail-reads
-use Rattle.difference_scan.proofs.rise_long.Reads as rise-long-reads
-use Rattle.octets.proofs.lesser.Reads as lesser-reads
-use Rattle.snapshot_parts.proofs.put_bytes.Reads as put-bytes-reads
 
--- src/lib.rt:155:9
 returns : tie.Need-returns
-returns c = ?
+returns c =
+    let a = c .before .before .before .before .args in
+    same-laid (a .pointer) (a .kind) (a .level) (a .x .now) (a .y .now) (c .if1 .taken) (a .at) (a .out .now)
 
--- src/lib.rt:157:9
 put-head-requires : tie.Need-put-head-requires
-put-head-requires c κs = ?
+put-head-requires c κs =
+    let i = c .before in
+    let s = i .before .before .before .before in
+    let a = s .args in
+    let h = s .pre in
+    omega (arith, head-short (a .pointer) (a .kind) (a .level) (a .x .now) (a .y .now) (i .if1 .left))
 
--- src/lib.rt:159:9
 put-bytes-requires : tie.Need-put-bytes-requires
-put-bytes-requires c κs = ?
+put-bytes-requires c κs =
+    let j = c .before in
+    let b = j .before .before .before in
+    let i = b .before .before in
+    let s = i .before .before .before .before in
+    let a = s .args in
+    let h = s .pre in
+    let e = b .put-head .ensures .0 in
+    omega (arith, right-long (a .pointer) (a .kind) (a .level) (a .x .now) (a .y .now) (i .if1 .left) (j .if2 .taken))
 
--- src/lib.rt:159:9
 same-length : tie.Need-same-length
 same-length c = search needs
 
--- src/lib.rt:159:9
 returns-2 : tie.Need-returns-2
-returns-2 c = ?
+returns-2 c =
+    let d = c .before .before in
+    let j = d .before .before in
+    let b = j .before .before .before in
+    let i = b .before .before in
+    let s = i .before .before .before .before in
+    let a = s .args in
+    let e = b .put-head .ensures in
+    let f = d .put-bytes .ensures in
+    let long = right-long (a .pointer) (a .kind) (a .level) (a .x .now) (a .y .now) (i .if1 .left) (j .if2 .taken) in (
+      omega arith,
+      right-laid (a .pointer) (a .kind) (a .level) (a .x .now) (a .y .now) (i .if1 .left) (j .if2 .taken) (a .out .now) (b .put-head .last .0) (d .put-bytes .last .0) (a .at) (b .put-head .result) (s .pre) (e .1) (e .0) (f .1),
+    )
 
--- src/lib.rt:161:28
 rise-long-requires : tie.Need-rise-long-requires
 rise-long-requires c κs = search needs
 
--- src/lib.rt:161:9
 lesser-requires : tie.Need-lesser-requires
 lesser-requires c κs = search needs
 
--- src/lib.rt:162:53
 sub-put-bytes : tie.Need-sub-put-bytes
 sub-put-bytes c = search needs
 
--- src/lib.rt:162:53
 part-put-bytes-start : tie.Need-part-put-bytes-start
 part-put-bytes-start c = search needs
 
--- src/lib.rt:162:53
 part-put-bytes-end : tie.Need-part-put-bytes-end
 part-put-bytes-end c = search needs
 
--- src/lib.rt:162:9
 put-bytes-requires-2 : tie.Need-put-bytes-requires-2
-put-bytes-requires-2 c κs = ?
+put-bytes-requires-2 c κs =
+    let m = c .before .before in
+    let w = m .before in
+    let j = w .before in
+    let b = j .before .before .before in
+    let s = b .before .before .before .before .before .before in
+    let a = s .args in
+    let h = s .pre in
+    let e = b .put-head .ensures .0 in
+    omega (arith, left-long (a .pointer) (a .kind) (a .level) (a .x .now) (a .y .now) (j .if2 .left) (w .rise-long .result) (m .lesser .result) (w .rise-long .ensures) (m .lesser .ensures))
 
--- src/lib.rt:163:5
 put-tail-requires : tie.Need-put-tail-requires
-put-tail-requires c κs = ?
+put-tail-requires c κs =
+    let d = c .before .before .before in
+    let m = d .before .before .before in
+    let w = m .before in
+    let j = w .before in
+    let b = j .before .before .before in
+    let s = b .before .before .before .before .before .before in
+    let a = s .args in
+    let h = s .pre in
+    let e = b .put-head .ensures .0 in
+    let f = d .put-bytes2 .ensures .0 in
+    omega (arith, left-long (a .pointer) (a .kind) (a .level) (a .x .now) (a .y .now) (j .if2 .left) (w .rise-long .result) (m .lesser .result) (w .rise-long .ensures) (m .lesser .ensures))
 
--- src/lib.rt:142:1
 same-length-2 : tie.Need-same-length-2
 same-length-2 c = search needs
 
--- src/lib.rt:142:1
 returns-3 : tie.Need-returns-3
-returns-3 c = ?
+returns-3 c =
+    let t = c .before .before in
+    let d = t .before .before .before .before in
+    let m = d .before .before .before in
+    let w = m .before in
+    let j = w .before in
+    let b = j .before .before .before in
+    let s = b .before .before .before .before .before .before in
+    let a = s .args in
+    let e = b .put-head .ensures in
+    let f = d .put-bytes2 .ensures in
+    let g = t .put-tail .ensures in
+    let long = left-long (a .pointer) (a .kind) (a .level) (a .x .now) (a .y .now) (j .if2 .left) (w .rise-long .result) (m .lesser .result) (w .rise-long .ensures) (m .lesser .ensures) in (
+      omega arith,
+      left-laid (a .pointer) (a .kind) (a .level) (a .x .now) (a .y .now) (j .if2 .left) (w .rise-long .result) (m .lesser .result) (w .rise-long .ensures) (m .lesser .ensures) (a .out .now) (b .put-head .last .0)
+          (d .put-bytes2 .last .0) (t .put-tail .last .0) (a .at) (b .put-head .result) (d .put-bytes2 .result) (s .pre) (e .1) (e .0) (f .1) (f .0) (g .1),
+    )
 
 pub put-entry-spec : {M : Type 1} → statement M
 put-entry-spec =

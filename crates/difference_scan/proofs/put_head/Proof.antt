@@ -1,12 +1,8 @@
 -- `put_head` meets its contract. Assumes nothing.
-use Prim.Native.Nat.{ℕ, _+_, _≤_}
-use mathlib.Core.Path.{_≡_, subst, ap, sym, _∙_}
-use mathlib.Core.Bool.{Bool, false}
+use Prim.Native.Nat.{_+_, _≤_}
 use native.Mathlib.Omega.{arith}
 use borrow.Author.Needs.{needs}
 use lib.ListN.{length}
-use Rattle.lemmas.specs.Slices.{put}
-use Rattle.difference_scan.specs.Scan.{head}
 use Rattle.difference_scan.specs.ScanLaws.{head-file, head-laid, head-none}
 use Rattle.difference_scan.proofs.put_head.Statement.{statement}
 use Rattle.difference_scan.proofs.put_head.Tie as tie
@@ -16,25 +12,26 @@ room : (c : tie.Else1) → c .before .before .args .at + 2 ≤ length (c .before
 room c =
     let s = c .before .before in
     let a = s .args in
-    let n : length (head (a .pointer) (a .kind) (a .level)) ≡ 2 = rw (c .if1 .left) (head-file (a .kind) (a .level)) in
     let h = s .pre in
-    omega arith
+    omega (arith, head-file (a .pointer) (a .kind) (a .level) (c .if1 .left))
 
 returns : tie.Need-returns
 returns c =
     let a = c .before .before .args in
-    rw (c .if1 .taken) (head-none (a .kind) (a .level) (a .at) (a .out .now))
+    head-none (a .pointer) (a .kind) (a .level) (c .if1 .taken) (a .at) (a .out .now)
 
 put-number-requires : tie.Need-put-number-requires
 put-number-requires c κs =
-    let r = room c in
+    let r = room (c .before) in
     omega arith
 
 add-put-number : tie.Need-add-put-number
 add-put-number c = search needs
 
 put-number-requires-2 : tie.Need-put-number-requires-2
-put-number-requires-2 c κs = ?
+put-number-requires-2 c κs =
+    let r = room (c .before .before .before .before .before) in
+    omega arith
 
 add-result : tie.Need-add-result
 add-result c = search needs
@@ -46,7 +43,14 @@ same-length : tie.Need-same-length
 same-length c = search needs
 
 returns-2 : tie.Need-returns-2
-returns-2 c = ?
+returns-2 c =
+    let l = c .before .before in
+    let k = l .before .before .before .before in
+    let i = k .before .before in
+    let a = i .before .before .args in (
+      omega (arith, head-file (a .pointer) (a .kind) (a .level) (i .if1 .left)),
+      head-laid (a .pointer) (a .kind) (a .level) (i .if1 .left) (a .out .now) (k .put-number .last .0) (l .put-number2 .last .0) (a .at) (room i) (k .put-number .ensures) (l .put-number2 .ensures),
+    )
 
 pub put-head-spec : {M : Type 1} → statement M
 put-head-spec =
