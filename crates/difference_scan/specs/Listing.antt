@@ -1,9 +1,9 @@
 -- The list of differences of two snapshots, made of their bytes alone: sections of entries, read and written leniently. Assumes nothing.
-use Prim.Native.Nat.{ℕ, zero, suc, _+_, _-_, _*_}
-use mathlib.Core.Bool.{Bool, cond, true, false, not}
+use Prim.Native.Nat.{ℕ, zero, suc, _+_, _*_}
+use mathlib.Core.Bool.{cond, true, false, not}
 use mathlib.Core.List.{List, [], _++_, map}
 use lib.Dec.{eqb}
-use lib.ListN.{length, take, drop}
+use lib.ListN.{take, drop}
 use Rattle.lemmas.specs.Lists.{keep, upFrom}
 use Rattle.lemmas.specs.Little.{bytes}
 use Rattle.model.specs.File.{levelCount}

@@ -1,10 +1,10 @@
 -- Laws of a turn over two runs of parts: it lays one entry or none, and what is left is compared as before. Assumes nothing.
-use Prim.Native.Nat.{ℕ, zero, suc, _+_, _-_, _≤_, _<_, min}
-use mathlib.Core.Path.{_≡_, refl, sym, ap, _∙_}
+use Prim.Native.Nat.{ℕ, zero, suc, _+_, _-_, _≤_, _<_}
+use mathlib.Core.Path.{_≡_, refl, ap}
 use mathlib.Core.Bool.{Bool, true, false, cond}
 use mathlib.Core.List.{List, [], _∷_, _++_}
 use native.Mathlib.Omega.{arith}
-use borrow.Author.Tests.{ltb-true, ltb-false, eqb-true, eqb-false, eq-eqb, ne-eqb, lt-ltb}
+use borrow.Author.Tests.{ltb-true, ltb-false, eqb-true, eqb-false}
 use lib.Dec.{eqb, ltb}
 use lib.ListN.{length, take, drop, length-drop}
 use lib.Seq.{take-all, take-take}
@@ -12,7 +12,7 @@ use native.Mathlib.Decide.{decLt}
 use Rattle.lemmas.specs.Little.{number}
 use Rattle.lemmas.specs.Order.{clash}
 use Rattle.lemmas.specs.Compare.{compare, compare-left-end, compare-right-end, compare-left, compare-right, compare-same, compare-other}
-use Rattle.model.specs.Snapshot.{sameBytes, byteLong, numberLong}
+use Rattle.model.specs.Snapshot.{sameBytes}
 use Rattle.model.specs.DifferenceBytes.{leftKind, rightKind, changedKind}
 use Rattle.snapshot_parse.specs.Parsing.{numberIn, afterKey, keyLength, afterFile, afterEntry, partsIn, afterParts}
 use Rattle.difference_scan.specs.Scan.{afterPart, partBytes, riseLong, riseOf, partsAt, afterAll, leftEntry, rightEntry, runEntries, sameKind, goesFirst, kindBy, kindAt, entryOf}

@@ -1,40 +1,18 @@
 -- Laws of Compare.antt: what is compared of two lists by rising number, and in which order. Assumes nothing.
-use Prim.Native.Nat.{ℕ, zero, suc, _<_}
+use Prim.Native.Nat.{ℕ, _<_}
 use mathlib.Core.Path.{_≡_, refl, sym, ap, _∙_, subst}
 use mathlib.Core.Logic.{_↔_, _⊎_, inl, inr}
 use mathlib.Core.Bool.{Bool, true, false, not}
 use mathlib.Core.List.{List, [], _∷_, map, List·Memᴰ as In, List·Memᴰ·head as here, List·Memᴰ·tail as there, List·Memᴰ·not-nil as not-nil}
 use native.Mathlib.Omega.{arith}
-use borrow.Author.Tests.{ltb-true, ltb-false, lt-ltb, not-true}
+use borrow.Author.Tests.{ltb-true, ltb-false, not-true}
 use lib.Dec.{ltb}
-use Rattle.lemmas.specs.Order.{StrictWeak, Stand, less, more, same as tied, stand, nat-order, on-order}
-use Rattle.lemmas.specs.Lists.{push, sort, chain, join, distinct, upFrom}
-use Rattle.lemmas.specs.ListLaws.{push-in, push-tail, push-head, sort-in, sort-chain, chain-rest, chain-cons, upFrom-in}
-use Rattle.lemmas.specs.Maps.{of-join-map}
-use Rattle.lemmas.specs.Once.{once-sort, once-strict, distinct-once, strict-first, strict-append}
+use Rattle.lemmas.specs.Order.{Stand, less, more, same as tied, stand, nat-order}
+use Rattle.lemmas.specs.Lists.{push, sort, chain, distinct}
+use Rattle.lemmas.specs.ListLaws.{push-in, push-tail, push-head, sort-in, chain-rest, chain-cons}
+use Rattle.lemmas.specs.Once.{distinct-once}
+use Rattle.lemmas.specs.Rising.{rising, rising-first, rising-above, sort-rises}
 use Rattle.lemmas.specs.Compare.{compareOne, compare, compare-left-end, compare-right-end, compare-left, compare-right, compare-same, compare-other}
-
--- ---- lists by rising number
--- consecutive numbers rise
-pub upFrom-rising : (k n : ℕ) → chain ltb (upFrom k n) ≡ true
-unfolding upFrom chain
-upFrom-rising k zero = refl
-upFrom-rising k (suc n) = chain-cons ltb k (upFrom (suc k) n) (upFrom-rising (suc k) n) (λ j m. lt-ltb k j (omega (arith, upFrom-in (suc k) n j .0 m .0)))
-
--- where no number stands twice, items sorted by number rise
-pub sort-rising : {A : Type 0} (key : A → ℕ) (xs : List A) → distinct (map key xs) ≡ true → chain (λ a b. ltb (key a) (key b)) (sort (λ a b. ltb (key a) (key b)) xs) ≡ true
-sort-rising {A} key xs d =
-    let lt : A → A → Bool = λ a b. ltb (key a) (key b) in
-    once-strict key lt (λ a b h k. omega (arith, ltb-false (key a) (key b) h, ltb-false (key b) (key a) k)) (sort lt xs) (sort-chain lt (on-order ltb key nat-order) xs) (once-sort key lt xs (distinct-once key xs d))
-
--- lists joined, one made of each item of a list in strict order: where each of an earlier item's stands before each of a later one's
-pub strict-join : {A B : Type 0} (lt : A → A → Bool) (before : B → B → Bool) → StrictWeak lt → StrictWeak before → (g : A → List B) (xs : List A) → chain lt xs ≡ true → ((x : A) → chain before (g x) ≡ true)
-    → ((x y : A) (d e : B) → lt x y ≡ true → In d (g x) → In e (g y) → before d e ≡ true) → chain before (join (map g xs)) ≡ true
-unfolding join chain
-strict-join lt before o u g [] c h k = refl
-strict-join lt before o u g (x ∷ xs) c h k =
-    strict-append before u (g x) (join (map g xs)) (h x) (strict-join lt before o u g xs (chain-rest lt x xs c) h k)
-    (λ d e m n. let w = of-join-map g xs e n in k x (w .0) d e (strict-first lt o x (w .0) xs c (w .1)) m (w .2))
 
 -- ---- what is compared
 -- an entry is called for: of an item whose number only the first list has, or only the second, or of the second's where both have the number and do not hold the same
@@ -70,10 +48,6 @@ module _ {A E : Type 0} (key : A → ℕ) (same : A → A → Bool) (left right 
   abbrev lower : A → A → Bool
   lower a b = ltb (key a) (key b)
 
-  -- the items rise
-  abbrev rising : List A → Bool
-  rising xs = chain lower xs
-
   -- the first list's first item is below all of the second list
   pub compare-first : (x : A) (xs ys : List A) → ((b : A) → In b ys → key x < key b) → compared (x ∷ xs) ys ≡ left x ∷ compared xs ys
   compare-first x xs [] h = compare-left-end key same left right other x xs
@@ -93,21 +67,12 @@ module _ {A E : Type 0} (key : A → ℕ) (same : A → A → Bool) (left right 
       go true e = rw e (compare-same key same left right other x y xs ys q e)
       go false e = rw e (compare-other key same left right other x y xs ys q e)
 
-  -- of items that rise, the first is below the others
-  later : (x : A) (xs : List A) → rising (x ∷ xs) ≡ true → (a : A) → In a xs → key x < key a
-  later x xs c a m = ltb-true (key x) (key a) (strict-first lower (on-order ltb key nat-order) x a xs c m)
-
-  -- so what is below the first is below all
-  above : (n : ℕ) (x : A) (xs : List A) → n < key x → rising (x ∷ xs) ≡ true → (a : A) → In a (x ∷ xs) → n < key a
-  above n x xs h c a (here e) = omega (arith, ap key e)
-  above n x xs h c a (there m) = omega (arith, later x xs c a m)
-
   -- a comparison of items that rise goes by turns
-  by-turns : (xs ys : List A) → rising xs ≡ true → rising ys ≡ true → Goes xs ys (compared xs ys)
+  by-turns : (xs ys : List A) → rising key xs ≡ true → rising key ys ≡ true → Goes xs ys (compared xs ys)
   unfolding compare compareOne
   by-turns [] [] c d = ended
-  by-turns [] (y ∷ ys) c d = second (λ a m. absurd (not-nil m)) (later y ys d) (by-turns [] ys c (chain-rest lower y ys d))
-  by-turns (x ∷ xs) [] c d = first (later x xs c) (λ b m. absurd (not-nil m)) (by-turns xs [] (chain-rest lower x xs c) d)
+  by-turns [] (y ∷ ys) c d = second (λ a m. absurd (not-nil m)) (λ a m. rising-first key y a ys d m) (by-turns [] ys c (chain-rest lower y ys d))
+  by-turns (x ∷ xs) [] c d = first (λ a m. rising-first key x a xs c m) (λ b m. absurd (not-nil m)) (by-turns xs [] (chain-rest lower x xs c) d)
   by-turns (x ∷ xs) (y ∷ ys) c d =
       let c′ = chain-rest lower x xs c in
       let d′ = chain-rest lower y ys d in
@@ -116,14 +81,14 @@ module _ {A E : Type 0} (key : A → ℕ) (same : A → A → Bool) (left right 
       go : Stand ltb (key x) (key y) → Goes xs (y ∷ ys) (compared xs (y ∷ ys)) → Goes (x ∷ xs) ys (compared (x ∷ xs) ys)
           → Goes xs ys (compared xs ys) → Goes (x ∷ xs) (y ∷ ys) (compared (x ∷ xs) (y ∷ ys))
       go (less e f) l r b =
-          let h = above (key x) y ys (ltb-true (key x) (key y) e) d in
-          subst (λ (es : List E). Goes (x ∷ xs) (y ∷ ys) es) (sym (compare-first x xs (y ∷ ys) h)) (first (later x xs c) h l)
+          let h : (b : A) → In b (y ∷ ys) → key x < key b = λ b m. rising-above key (key x) y b ys d (ltb-true (key x) (key y) e) m in
+          subst (λ (es : List E). Goes (x ∷ xs) (y ∷ ys) es) (sym (compare-first x xs (y ∷ ys) h)) (first (λ a m. rising-first key x a xs c m) h l)
       go (more e f) l r b =
-          let h = above (key y) x xs (ltb-true (key y) (key x) e) c in
-          subst (λ (es : List E). Goes (x ∷ xs) (y ∷ ys) es) (sym (compare-second y (x ∷ xs) ys h)) (second h (later y ys d) r)
+          let h : (a : A) → In a (x ∷ xs) → key y < key a = λ a m. rising-above key (key y) x a xs c (ltb-true (key y) (key x) e) m in
+          subst (λ (es : List E). Goes (x ∷ xs) (y ∷ ys) es) (sym (compare-second y (x ∷ xs) ys h)) (second h (λ a m. rising-first key y a ys d m) r)
       go (tied e f) l r b =
           let q : key x ≡ key y = omega (arith, ltb-false (key x) (key y) e, ltb-false (key y) (key x) f) in
-          subst (λ (es : List E). Goes (x ∷ xs) (y ∷ ys) es) (sym (compare-both x y xs ys q)) (both q (later x xs c) (λ b m. omega (arith, later y ys d b m)) b)
+          subst (λ (es : List E). Goes (x ∷ xs) (y ∷ ys) es) (sym (compare-both x y xs ys q)) (both q (λ a m. rising-first key x a xs c m) (λ b m. omega (arith, rising-first key y b ys d m)) b)
 
   -- an item behind the first
   past : {x a : A} {xs : List A} → In a (x ∷ xs) → (key x ≡ key a → ⊥) → In a xs
@@ -181,14 +146,14 @@ module _ {A E : Type 0} (key : A → ℕ) (same : A → A → Bool) (left right 
       go ih (at-both a b (there m) (there k) z s i) = stays (ih (at-both a b m k z s i))
 
   -- lists of items that rise, compared, have exactly what is called for
-  pub compare-in : (xs ys : List A) → rising xs ≡ true → rising ys ≡ true → (e : E) → In e (compared xs ys) ↔ Calls xs ys e
+  pub compare-in : (xs ys : List A) → rising key xs ≡ true → rising key ys ≡ true → (e : E) → In e (compared xs ys) ↔ Calls xs ys e
   compare-in xs ys c d e = (turns-sound (by-turns xs ys c d) e, turns-complete (by-turns xs ys c d) e)
 
   -- sorted first, where no number stands twice: what is called for is that of the lists as they were
   pub compare-sorted-in : (xs ys : List A) → distinct (map key xs) ≡ true → distinct (map key ys) ≡ true → (e : E)
       → In e (compared (sort lower xs) (sort lower ys)) ↔ Calls xs ys e
   compare-sorted-in xs ys c d e =
-      let r = compare-in (sort lower xs) (sort lower ys) (sort-rising key xs c) (sort-rising key ys d) e in
+      let r = compare-in (sort lower xs) (sort lower ys) (sort-rises key xs (distinct-once key xs c)) (sort-rises key ys (distinct-once key ys d)) e in
       let mx = sort-in lower xs in
       let my = sort-in lower ys in (
         λ m. wider (λ a. mx a .0) (λ b. my b .0) (λ a b k i z. my b .1 i) (λ a b i k z. mx a .1 i) (r .0 m),
@@ -221,5 +186,5 @@ module _ {A E : Type 0} (key : A → ℕ) (same : A → A → Bool) (left right 
         go false c = c
 
     -- so each entry stands before the next
-    pub compare-ordered : (xs ys : List A) → rising xs ≡ true → rising ys ≡ true → chain lt (compared xs ys) ≡ true
+    pub compare-ordered : (xs ys : List A) → rising key xs ≡ true → rising key ys ≡ true → chain lt (compared xs ys) ≡ true
     compare-ordered xs ys c d = turns-ordered (by-turns xs ys c d)

@@ -14,11 +14,12 @@ pub mod Bisect
 pub mod Each
 pub mod Merge
 pub mod Compare
-pub mod CompareLaws
-pub mod OverlayLaws
 pub mod UpFrom
 pub mod Insertion
 pub mod Owned
 pub mod Fractions
 pub mod Laying
 pub mod Once
+pub mod Rising
+pub mod CompareLaws
+pub mod OverlayLaws

@@ -5,61 +5,13 @@ use mathlib.Core.Logic.{_↔_, _⊎_, inl, inr}
 use mathlib.Core.Bool.{Bool, true, false, cond}
 use mathlib.Core.List.{List, [], _∷_, _++_, map, List·Memᴰ as In, List·Memᴰ·head as here, List·Memᴰ·tail as there, List·Memᴰ·not-nil as not-nil, List·Memᴰ·append-cases as append-cases, Memᴰ·append-left as in-left, Memᴰ·append-right as in-right}
 use native.Mathlib.Omega.{arith}
-use borrow.Author.Tests.{ltb-true, ltb-false, lt-ltb}
+use borrow.Author.Tests.{ltb-true, ltb-false}
 use lib.Dec.{ltb}
-use Rattle.lemmas.specs.Order.{StrictWeak, nat-order, on-order}
-use Rattle.lemmas.specs.Lists.{push, keep, sort, chain, join}
-use Rattle.lemmas.specs.ListLaws.{keep-in, sort-chain, chain-rest}
-use Rattle.lemmas.specs.Once.{Once, once-sort, once-strict, strict-first, strict-append, strict-one}
+use Rattle.lemmas.specs.Lists.{chain, join}
+use Rattle.lemmas.specs.ListLaws.{chain-rest}
+use Rattle.lemmas.specs.Once.{strict-one}
+use Rattle.lemmas.specs.Rising.{rising, rising-order, rising-first, rising-above, rising-append, rising-cons}
 use Rattle.lemmas.specs.Compare.{overlayOne, overlay}
-
--- ---- lists by rising number
--- each number is below the next
-abbrev pub rising : {A : Type 0} → (A → ℕ) → List A → Bool
-rising key xs = chain (λ a b. ltb (key a) (key b)) xs
-
-module _ {A : Type 0} (key : A → ℕ) where
-  -- the order by number
-  pub rising-order : StrictWeak (λ (a b : A). ltb (key a) (key b))
-  rising-order = on-order ltb key nat-order
-
-  -- the first number is below each later one
-  pub rising-first : (x y : A) (xs : List A) → rising key (x ∷ xs) ≡ true → In y xs → key x < key y
-  rising-first x y xs c m = ltb-true (key x) (key y) (strict-first (λ (a b : A). ltb (key a) (key b)) rising-order x y xs c m)
-
-  -- what is below the first number is below each
-  pub rising-above : (n : ℕ) (x y : A) (xs : List A) → rising key (x ∷ xs) ≡ true → n < key x → In y (x ∷ xs) → n < key y
-  rising-above n x y xs c h (here e) = omega (arith, ap key e)
-  rising-above n x y xs c h (there m) = omega (arith, rising-first x y xs c m)
-
-  -- numbers all below those of a rising list go before it
-  pub rising-append : (xs ys : List A) → rising key xs ≡ true → rising key ys ≡ true → ((x y : A) → In x xs → In y ys → key x < key y) → rising key (xs ++ ys) ≡ true
-  rising-append xs ys c d h = strict-append (λ (a b : A). ltb (key a) (key b)) rising-order xs ys c d (λ x y m n. lt-ltb (key x) (key y) (h x y m n))
-
-  -- a number below those of a rising list goes before it
-  pub rising-cons : (x : A) (xs : List A) → rising key xs ≡ true → ((y : A) → In y xs → key x < key y) → rising key (x ∷ xs) ≡ true
-  unfolding chain
-  rising-cons x xs c h = rising-append (x ∷ []) xs refl c (λ z y m n. go z y m (h y n))
-    where
-      go : (z y : A) → In z (x ∷ []) → key x < key y → key z < key y
-      go z y (here e) k = omega (arith, ap key e)
-      go z y (there m) k = absurd (not-nil m)
-
-  -- items no two of which have one number rise when sorted by number
-  pub sort-rises : (xs : List A) → Once key xs → rising key (sort (λ (a b : A). ltb (key a) (key b)) xs) ≡ true
-  sort-rises xs o =
-      let lt : A → A → Bool = λ a b. ltb (key a) (key b) in
-      once-strict key lt (λ a b h k. omega (arith, ltb-false (key a) (key b) h, ltb-false (key b) (key a) k)) (sort lt xs) (sort-chain lt rising-order xs) (once-sort key lt xs o)
-
-  -- items in a strict order that pass a test rise by number, where that order is by number for those that pass
-  pub keep-rises : (lt : A → A → Bool) → StrictWeak lt → (q : A → Bool) (xs : List A) → chain lt xs ≡ true → ((a b : A) → q a ≡ true → q b ≡ true → lt a b ≡ true → key a < key b) → rising key (keep q xs) ≡ true
-  unfolding keep push chain
-  keep-rises lt o q [] c h = refl
-  keep-rises lt o q (x ∷ xs) c h = go (q x) refl (keep-rises lt o q xs (chain-rest lt x xs c) h)
-    where
-      go : (t : Bool) → q x ≡ t → rising key (keep q xs) ≡ true → rising key (push t x (keep q xs)) ≡ true
-      go false e r = r
-      go true e r = rising-cons x (keep q xs) r (λ y m. let k = keep-in q xs y .0 m in h x y e (k .1) (strict-first lt o x y xs c (k .0)))
 
 -- ---- what is left
 module _ {A E : Type 0} (key : A → ℕ) (of : E → ℕ) (brings : E → List A) where

@@ -14,9 +14,10 @@ use Rattle.lemmas.specs.Lists.{push, keep, any, sort, chain, join, upFrom, dist
 use Rattle.lemmas.specs.ListLaws.{any-in, keep-in, keep-all, keep-append, sort-in, sub-keep, sub-chain}
 use Rattle.lemmas.specs.Maps.{push-map, chain-map, of-join-map}
 use Rattle.lemmas.specs.UpFrom.{upFrom-whole}
-use Rattle.lemmas.specs.Once.{in-any, in-join-map, none-in, strict-one}
+use Rattle.lemmas.specs.Once.{in-any, in-join-map, none-in, strict-one, distinct-once}
 use Rattle.lemmas.specs.Compare.{compare}
-use Rattle.lemmas.specs.CompareLaws.{upFrom-rising, sort-rising, strict-join, CalledFor, at-left, at-right, at-both, compare-first, compare-second, compare-both, compare-sorted-in, compare-ordered}
+use Rattle.lemmas.specs.Rising.{upFrom-rising, sort-rises, strict-join}
+use Rattle.lemmas.specs.CompareLaws.{CalledFor, at-left, at-right, at-both, compare-first, compare-second, compare-both, compare-sorted-in, compare-ordered}
 use Rattle.model.specs.Key.{Key}
 use Rattle.model.specs.File.{Profile, File, State, level, pointer, numbers}
 use Rattle.model.specs.Formed.{WF}
@@ -108,7 +109,7 @@ module _ (l : ℕ) (xs ys : List File) where
   comparedLevel-ordered c e =
       compare-ordered (λ (f : File). f .number) sameContents (λ (f : File). onlyLeft l (f .number)) (onlyRight l) (changed l) earlier (λ n d. place d ≡ 0 ∷ l ∷ n ∷ []) (λ f. refl) (λ f. refl) (λ f. refl)
       (λ n m d e h a b. earlier-files d e l n l m (names-place l n d .1 a) (names-place l m e .1 b) .1 (inr (refl, h)))
-      (sort byNumber xs) (sort byNumber ys) (sort-rising (λ (f : File). f .number) xs c) (sort-rising (λ (f : File). f .number) ys e)
+      (sort byNumber xs) (sort byNumber ys) (sort-rises (λ (f : File). f .number) xs (distinct-once (λ (f : File). f .number) xs c)) (sort-rises (λ (f : File). f .number) ys (distinct-once (λ (f : File). f .number) ys e))
 
 -- ---- pointers
 -- what is said of a pointer that only the left has set

@@ -16,9 +16,10 @@ use Rattle.lemmas.specs.Maps.{of-join-map, map-same, map-same-in}
 use Rattle.lemmas.specs.UpFrom.{made-at, upFrom-length}
 use Rattle.lemmas.specs.Once.{in-any, in-join-map, distinct-once, strict-once}
 use Rattle.lemmas.specs.Compare.{overlay}
-use Rattle.lemmas.specs.OverlayLaws.{rising, sort-rises, keep-rises, Left, overlay-is}
+use Rattle.lemmas.specs.Rising.{rising, sort-rises, keep-rises}
+use Rattle.lemmas.specs.OverlayLaws.{Left, overlay-is}
 use Rattle.model.specs.Key.{Key}
-use Rattle.model.specs.Answer.{refused, _⇒_, firstOf}
+use Rattle.model.specs.Answer.{_⇒_, refused, firstOf}
 use Rattle.model.specs.File.{Profile, File, State, level, pointer, numbers, bySmallest, goodFile, goodPointer, maxCounter, full, wellFormed}
 use Rattle.model.specs.Formed.{WF, formed-says}
 use Rattle.model.specs.Snapshot.{byNumber, Entry, entries, encode, readState, accept, decode, fiveOf, fromFive, longestSnapshot, counterCount}

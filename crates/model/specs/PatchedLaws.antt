@@ -2,7 +2,7 @@
 use Prim.Native.Nat.{ℕ, zero, suc, _<_}
 use mathlib.Core.Path.{_≡_, refl, ap, sym, _∙_, subst}
 use mathlib.Core.Logic.{_↔_, _⊎_, inl, inr}
-use mathlib.Core.Bool.{Bool, cond, true, false, not, _&&_}
+use mathlib.Core.Bool.{Bool, cond, true, false, not}
 use mathlib.Core.List.{List, [], _∷_, _++_, map, List·Memᴰ as In, List·Memᴰ·head as here, List·Memᴰ·tail as there, List·Memᴰ·not-nil as not-nil, List·Memᴰ·append-cases as append-cases, Memᴰ·append-left as in-left, Memᴰ·append-right as in-right}
 use mathlib.Core.Option.{Option, none}
 use borrow.Author.Tests.{eqb-true, eqb-false, eq-eqb, not-true}
@@ -11,7 +11,7 @@ use lib.ListN.{length, length-map}
 use native.Mathlib.Omega.{arith}
 use Rattle.lemmas.specs.Order.{clash}
 use Rattle.lemmas.specs.Lists.{push, keep, any, sort, chain, join, upFrom, distinct}
-use Rattle.lemmas.specs.ListLaws.{and-left, and-right, both, any-in, keep-in, sort-in}
+use Rattle.lemmas.specs.ListLaws.{any-in, keep-in, sort-in}
 use Rattle.lemmas.specs.Slices.{getD-map}
 use Rattle.lemmas.specs.Maps.{of-join-map, map-same}
 use Rattle.lemmas.specs.UpFrom.{made-of, made-at}

@@ -15,7 +15,7 @@ use Rattle.lemmas.specs.Lists.{sort, chain, join, sum, upFrom}
 use Rattle.lemmas.specs.ListLaws.{sort-in, sort-length, join-in, join-length, append-apart, joined-most, joined-least, stretch-few}
 use Rattle.lemmas.specs.Little.{bytes, bytes-length, bytes-apart}
 use Rattle.lemmas.specs.UpFrom.{made-at}
-use Rattle.lemmas.specs.OverlayLaws.{rising, rising-cons}
+use Rattle.lemmas.specs.Rising.{rising, rising-cons}
 use Rattle.model.specs.Key.{Key, goodKey, trailerBytes}
 use Rattle.model.specs.File.{Profile, full, File, Counters, State, level, maxCounter, maxSize, goodFile, apart, goodPointer, levelCount}
 use Rattle.model.specs.Snapshot.{byNumber, writeKey, writeFile, Entry, entries, writeEntry, section, writeLevel, fiveOf, encode, fileLong, entryLong, freshLong, longestSnapshot, byteLong, countLong, numberLong}
