@@ -30,6 +30,8 @@ impl Snapshot {
     pub const NUMBER: usize = 8;
     // The byte of a level, or of a key's length.
     pub const BYTE: usize = 1;
+    // The number of counters.
+    pub const FIVE: usize = 5;
     // The place of each counter. They begin a snapshot, after their count.
     pub const NEXT: usize = Snapshot::COUNT;
 
@@ -133,7 +135,7 @@ pub fn put_counters(out: &mut [u8], at: usize, c: Counters) -> usize
     requires { ⌜ at + countersLong ≤ length (now out) ⌝ }
     ensures { λ r. ⌜ (r ≡ at + countersLong) × (now (out .exit) ≡ put (now (out .entry)) at (section (bytes numberLong) (fiveOf (countersOf c)))) ⌝ }
 {
-    put_number(out, at, Snapshot::COUNT, 5);
+    put_number(out, at, Snapshot::COUNT, Snapshot::FIVE as u64);
     put_number(out, at + Snapshot::NEXT, Snapshot::NUMBER, c.next.0);
     put_number(out, at + Snapshot::MANIFEST, Snapshot::NUMBER, c.manifest.0);
     put_number(out, at + Snapshot::LAST, Snapshot::NUMBER, c.last.0);

@@ -1,0 +1,1 @@
+-- Laws of runs of entries: one turn, and how long they are. Assumes nothing.

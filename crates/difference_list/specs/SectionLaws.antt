@@ -1,0 +1,1 @@
+-- Laws of the section of the counters, written entry by entry, and of the places before runs. Assumes nothing.
