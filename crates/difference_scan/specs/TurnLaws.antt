@@ -52,10 +52,20 @@ unfolding afterAll afterParts
 all-first p zero bs h = absurd (omega arith)
 all-first p (suc n) bs h = let e : suc n - 1 ≡ n = omega arith in rw e
 
--- no parts
+-- no parts: the bytes after them are all
+pub all-none : (p : Bool) (bs : List ℕ) → afterAll p 0 bs ≡ bs
+unfolding afterAll afterParts
+all-none p bs = refl
+
+-- no parts: none
 pub parts-none : (p : Bool) (bs : List ℕ) → partsAt p 0 bs ≡ []
 unfolding partsAt partsIn
 parts-none p bs = refl
+
+-- no parts on either side: nothing differs
+pub entries-none : (p : Bool) (l : ℕ) (bs cs : List ℕ) → entriesOf p l 0 bs 0 cs ≡ []
+unfolding entriesOf runEntries compare partsAt partsIn
+entries-none p l bs cs = refl
 
 -- ---- a turn
 -- a part goes first: it is there, and the other is not, or has a higher number

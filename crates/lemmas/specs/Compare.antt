@@ -1,11 +1,12 @@
 -- Two lists by rising number, gone through at once: what differs between them, and one laid over the other. Assumes nothing.
-use Prim.Native.Nat.{ℕ, _<_}
+use Prim.Native.Nat.{ℕ, suc, _+_, _≤_, _<_}
 use mathlib.Core.Path.{_≡_, refl, ap, _∙_}
 use mathlib.Core.Bool.{Bool, true, false, cond}
 use mathlib.Core.List.{List, [], _∷_, _++_, map, List·Memᴰ as In, List·Memᴰ·head as here, List·Memᴰ·tail as there}
 use native.Mathlib.Omega.{arith}
 use borrow.Author.Tests.{ltb-false, lt-ltb, le-ltb}
 use lib.Dec.{ltb}
+use lib.ListN.{length, length-map}
 use Rattle.lemmas.specs.Lists.{join}
 
 -- ---- what differs
@@ -53,6 +54,24 @@ module _ {A E : Type 0} (key : A → ℕ) (same : A → A → Bool) (left right 
     pub compare-other : key x ≡ key y → same x y ≡ false → compare (x ∷ xs) (y ∷ ys) ≡ other y ∷ compare xs ys
     unfolding compare compareOne
     compare-other h e = rw (le-ltb (key y) (key x) (omega arith), le-ltb (key x) (key y) (omega arith), e)
+
+  -- ---- how many entries
+  -- at most as many as there are items
+  pub compare-few : (xs ys : List A) → length (compare xs ys) ≤ length xs + length ys
+  unfolding compare compareOne
+  compare-few [] ys = omega (arith, length-map ys right)
+  compare-few (x ∷ xs) ys = go (compare-few xs) ys
+    where
+      go : ((zs : List A) → length (compare xs zs) ≤ length xs + length zs) → (zs : List A) → length (compareOne x (compare xs) zs) ≤ suc (length xs) + length zs
+      go ih [] = omega (arith, ih [])
+      go ih (z ∷ zs) = turn (ltb (key z) (key x)) (ltb (key x) (key z)) (same x z) (go ih zs) (ih (z ∷ zs)) (ih zs)
+        where
+          turn : (a b c : Bool) → length (compareOne x (compare xs) zs) ≤ suc (length xs) + length zs → length (compare xs (z ∷ zs)) ≤ length xs + suc (length zs) → length (compare xs zs) ≤ length xs + length zs
+              → length (cond a (right z ∷ compareOne x (compare xs) zs) (cond b (left x ∷ compare xs (z ∷ zs)) (cond c (compare xs zs) (other z ∷ compare xs zs)))) ≤ suc (length xs) + suc (length zs)
+          turn true b c h k l = omega arith
+          turn false true c h k l = omega arith
+          turn false false true h k l = omega arith
+          turn false false false h k l = omega arith
 
 -- items in another form: where g keeps numbers and sameness, and h turns the entries of one form into those of the other, the lists are compared alike
 module _ {A B E F : Type 0} (key : A → ℕ) (same : A → A → Bool) (left right other : A → E) (key′ : B → ℕ) (same′ : B → B → Bool) (left′ right′ other′ : B → F) (g : A → B) (h : E → F) where

@@ -1,35 +1,47 @@
+-- `advanced` meets its contract. Assumes nothing.
+use native.Mathlib.Omega.{arith}
+use borrow.Author.Tests.{ne-eqb}
+use Rattle.model.specs.DifferenceBytes.{leftKind, rightKind}
+use Rattle.difference_list.specs.RunLaws.{advanced-right, advanced-left, advanced-both}
 use Rattle.difference_list.proofs.advanced.Statement.{statement}
 use Rattle.difference_list.proofs.advanced.Tie as tie
-use Rattle.difference_list.proofs.advanced.Reads as reads
-use Rattle.difference_list.proofs.advanced.Lts as lts
 
--- src/lib.rt:42:21
 sub-t4 : tie.Need-sub-t4
-sub-t4 c = ?
+sub-t4 c =
+    let s = c .before .before .before in
+    let e = c .before .if1 .taken in
+    s .pre .1 (ne-eqb (s .args .t .kind) leftKind (λ k. omega arith))
 
--- src/lib.rt:38:9
 returns : tie.Need-returns
-returns c = ?
+returns c =
+    let a = c .before .before .before .args in
+    advanced-right (a .p) (a .t) (c .before .if1 .taken)
 
--- src/lib.rt:48:20
 sub-t5 : tie.Need-sub-t5
-sub-t5 c = ?
+sub-t5 c =
+    let s = c .before .before .before .before .before in
+    let e = c .before .if2 .taken in
+    s .pre .0 (ne-eqb (s .args .t .kind) rightKind (λ k. omega arith))
 
--- src/lib.rt:46:9
 returns-2 : tie.Need-returns-2
-returns-2 c = ?
+returns-2 c =
+    let a = c .before .before .before .before .before .args in
+    advanced-left (a .p) (a .t) (c .before .if2 .taken)
 
--- src/lib.rt:55:16
 sub-t6 : tie.Need-sub-t6
-sub-t6 c = ?
+sub-t6 c =
+    let s = c .before .before .before .before .before in
+    s .pre .0 (ne-eqb (s .args .t .kind) rightKind (c .before .before .before .if1 .left))
 
--- src/lib.rt:57:17
 sub-t7 : tie.Need-sub-t7
-sub-t7 c = ?
+sub-t7 c =
+    let s = c .before .before .before .before .before .before in
+    s .pre .1 (ne-eqb (s .args .t .kind) leftKind (c .before .before .if2 .left))
 
--- src/lib.rt:33:1
 returns-3 : tie.Need-returns-3
-returns-3 c = ?
+returns-3 c =
+    let a = c .before .before .before .before .before .before .args in
+    advanced-both (a .p) (a .t) (c .before .before .before .before .if1 .left) (c .before .before .if2 .left)
 
 pub advanced-spec : {M : Type 1} → statement M
 advanced-spec = tie.close (tie.spec sub-t4 returns sub-t5 returns-2 sub-t6 sub-t7 returns-3)
