@@ -3,3 +3,4 @@ pub mod Turns
 pub mod Listing
 pub mod ScanLaws
 pub mod TurnLaws
+pub mod ListingLaws
