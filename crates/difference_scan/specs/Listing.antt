@@ -1,10 +1,10 @@
 -- The list of differences of two snapshots, made of their bytes alone: sections of entries, read and written leniently. Assumes nothing.
 use Prim.Native.Nat.{ℕ, zero, suc, _+_, _*_}
-use mathlib.Core.Bool.{cond, true, false, not}
-use mathlib.Core.List.{List, [], _++_, map}
+use mathlib.Core.Bool.{Bool, cond, true, false}
+use mathlib.Core.List.{List, [], _∷_, _++_, map}
 use lib.Dec.{eqb}
 use lib.ListN.{take, drop}
-use Rattle.lemmas.specs.Lists.{keep, upFrom}
+use Rattle.lemmas.specs.Lists.{join, upFrom}
 use Rattle.lemmas.specs.Little.{bytes}
 use Rattle.model.specs.File.{levelCount}
 use Rattle.model.specs.Snapshot.{section, sameBytes, byteLong, countLong, numberLong, counterCount, countersLong, nextAt}
@@ -54,9 +54,13 @@ levelsAt bs = afterAll true (numberIn countLong (pointersAt bs)) (drop countLong
 unfoldable pub counterBytes : List ℕ → ℕ → List ℕ
 counterBytes bs i = take numberLong (drop (nextAt + i * numberLong) bs)
 
--- the counters that differ, from place i on
+-- the entry of a counter: its place, then its bytes; none if it is the same
+unfoldable pub counterEntry : ℕ → Bool → List ℕ → List (List ℕ)
+counterEntry i same y = cond same [] ((bytes byteLong i ++ y) ∷ [])
+
+-- the counters that differ, of n from place i on
 unfoldable pub counterEntries : ℕ → ℕ → List ℕ → List ℕ → List (List ℕ)
-counterEntries i n bs cs = map (λ j. bytes byteLong j ++ counterBytes cs j) (keep (λ j. not (sameBytes (counterBytes bs j) (counterBytes cs j))) (upFrom i n))
+counterEntries i n bs cs = join (map (λ j. counterEntry j (sameBytes (counterBytes bs j) (counterBytes cs j)) (counterBytes cs j)) (upFrom i n))
 
 -- entries that are bytes already
 abbrev pub asIs : List ℕ → List ℕ
