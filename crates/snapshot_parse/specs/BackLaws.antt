@@ -59,8 +59,8 @@ module _ (k x : List ℕ) (h : length k ≤ keyRoom) where
 -- ---- files
 
 -- a file whose numbers fit their widths and whose keys fit their room
-record Fit (f : File) : Type 0 where
-  number : f .number < 256 ^ 8
+pub record Fit (f : File) : Type 0 where
+  pub number : f .number < 256 ^ 8
   size : f .size < 256 ^ 8
   smallest : length (f .smallest) ≤ keyRoom
   largest : length (f .largest) ≤ keyRoom
@@ -84,7 +84,7 @@ module _ (f : File) (x : List ℕ) (h : Fit f) where
   past-size = sym (drop-drop 8 8 (writeFile f ++ x)) ∙ ap (drop 8) past-number ∙ number-past 8 (f .size) keys
 
   -- a file that was written is read back
-  file-back : fileIn (writeFile f ++ x) ≡ f
+  pub file-back : fileIn (writeFile f ++ x) ≡ f
   unfolding fileIn
   file-back =
       let n = ap (numberIn numberLong) file-is ∙ number-back 8 (f .number) (bytes numberLong (f .size) ++ keys) (h .number) in
@@ -94,7 +94,7 @@ module _ (f : File) (x : List ℕ) (h : Fit f) where
       λ i. record { number = n i; size = z i; smallest = a i; largest = b i }
 
   -- the bytes after it
-  file-rest : afterFile (writeFile f ++ x) ≡ x
+  pub file-rest : afterFile (writeFile f ++ x) ≡ x
   unfolding afterFile
   file-rest = ap (λ (bs : List ℕ). afterKey (afterKey bs)) past-size ∙ ap afterKey (key-rest (f .smallest) (writeKey (f .largest) ++ x) (h .smallest)) ∙ key-rest (f .largest) x (h .largest)
 
@@ -111,7 +111,7 @@ module _ (e : Entry) (x : List ℕ) (h : e .level < 256) (k : length (e .key) �
   past-level = ap (drop 1) entry-is ∙ number-past 1 (e .level) (writeKey (e .key) ++ x)
 
   -- a pointer that was written is read back
-  entry-back : entryIn (writeEntry e ++ x) ≡ e
+  pub entry-back : entryIn (writeEntry e ++ x) ≡ e
   unfolding entryIn
   entry-back =
       let l = ap (numberIn byteLong) entry-is ∙ number-back 1 (e .level) (writeKey (e .key) ++ x) h in
@@ -119,7 +119,7 @@ module _ (e : Entry) (x : List ℕ) (h : e .level < 256) (k : length (e .key) �
       λ i. record { level = l i; key = q i }
 
   -- the bytes after it
-  entry-rest : afterEntry (writeEntry e ++ x) ≡ x
+  pub entry-rest : afterEntry (writeEntry e ++ x) ≡ x
   unfolding afterEntry
   entry-rest = ap afterKey past-level ∙ key-rest (e .key) x k
 
@@ -127,7 +127,7 @@ module _ (e : Entry) (x : List ℕ) (h : e .level < 256) (k : length (e .key) �
 
 module _ {A : Type 0} (w : A → List ℕ) (part : List ℕ → A) (after : List ℕ → List ℕ) where
   -- parts that were written one after another are read back, and the bytes after them
-  parts-back : (xs : List A) (x : List ℕ) → ((a : A) → In a xs → (y : List ℕ) → (part (w a ++ y) ≡ a) × (after (w a ++ y) ≡ y))
+  pub parts-back : (xs : List A) (x : List ℕ) → ((a : A) → In a xs → (y : List ℕ) → (part (w a ++ y) ≡ a) × (after (w a ++ y) ≡ y))
       → (partsIn part after (length xs) (join (map w xs) ++ x) ≡ xs) × (afterParts part after (length xs) (join (map w xs) ++ x) ≡ x)
   unfolding partsIn afterParts join
   parts-back [] x h = (refl, refl)
@@ -144,11 +144,11 @@ module _ {A : Type 0} (w : A → List ℕ) (xs : List A) (x : List ℕ) where
   section-is = append-assoc (bytes countLong (length xs)) (join (map w xs)) x
 
   -- its count is read back
-  count-back : length xs < 65536 → numberIn countLong (section w xs ++ x) ≡ length xs
+  pub count-back : length xs < 65536 → numberIn countLong (section w xs ++ x) ≡ length xs
   count-back h = ap (numberIn countLong) section-is ∙ number-back 2 (length xs) (join (map w xs) ++ x) (omega arith)
 
   -- the bytes after the count
-  count-rest : drop 2 (section w xs ++ x) ≡ join (map w xs) ++ x
+  pub count-rest : drop 2 (section w xs ++ x) ≡ join (map w xs) ++ x
   count-rest = ap (drop 2) section-is ∙ number-past 2 (length xs) (join (map w xs) ++ x)
 
 -- the pointers' section
@@ -249,7 +249,7 @@ module _ (t : State) (w : WF full t) where
   levels = join (map (λ l. writeLevel (level t l)) (upFrom 0 levelCount))
 
   -- the snapshot is counters, pointers, levels
-  encode-is : encode t ≡ section (bytes numberLong) (fiveOf (t .counters)) ++ (pointers ++ levels)
+  pub encode-is : encode t ≡ section (bytes numberLong) (fiveOf (t .counters)) ++ (pointers ++ levels)
   unfolding encode
   encode-is = append-assoc (section (bytes numberLong) (fiveOf (t .counters))) pointers levels
 
@@ -264,7 +264,7 @@ module _ (t : State) (w : WF full t) where
       (omega (arith, h (c .last) (there (there (here refl))))) (omega (arith, h (c .log) (there (there (there (here refl)))))) (omega (arith, h (c .previous) (there (there (there (there (here refl)))))))
 
   -- the bytes after the counters
-  past-counters : drop countersLong (encode t) ≡ pointers ++ levels
+  pub past-counters : drop countersLong (encode t) ≡ pointers ++ levels
   unfolding fiveOf
   past-counters = let c = t .counters in ap (drop countersLong) encode-is ∙ five-rest (c .next) (c .manifest) (c .last) (c .log) (c .previous) (pointers ++ levels)
 
@@ -274,7 +274,7 @@ module _ (t : State) (w : WF full t) where
   few = omega (arith, entries-few 0 (t .pointers), w .pointer-levels)
 
   -- pointers fit their bytes
-  entries-fit : (e : Entry) → In e (entries 0 (t .pointers)) → (e .level < 256) × (length (e .key) ≤ keyRoom)
+  pub entries-fit : (e : Entry) → In e (entries 0 (t .pointers)) → (e .level < 256) × (length (e .key) ≤ keyRoom)
   unfolding full goodPointer
   entries-fit e m =
       let r = entries-among 0 (t .pointers) e m in
@@ -289,7 +289,7 @@ module _ (t : State) (w : WF full t) where
       ∙ ap (λ (n : ℕ). placed (entries 0 (t .pointers)) (replicate n none)) (sym (w .pointer-levels)) ∙ placed-back (t .pointers) 0 [] refl
 
   -- files fit their bytes
-  files-fit : (f : File) → In f (join (t .files)) → Fit f
+  pub files-fit : (f : File) → In f (join (t .files)) → Fit f
   files-fit f m =
       let s = short-keys f (w .good f m) in
       record { number = omega (arith, w .words f m); size = omega (arith, file-facts full f (w .good f m) .size); smallest = s .0; largest = s .1 }
