@@ -11,7 +11,7 @@ use lib.Seq.{drop-at, take-take, take-append-le, length-take-le}
 use Rattle.lemmas.specs.AreBytes.{bytes-take, bytes-drop}
 use Rattle.lemmas.specs.Lists.{join}
 use Rattle.lemmas.specs.Little.{bytes, bytes-length, number-bound}
-use Rattle.lemmas.specs.Slices.{put, put-nil, put-append, join-append}
+use Rattle.lemmas.specs.Slices.{put, put-nil, put-append, length-put, join-append}
 use Rattle.lemmas.specs.Laying.{put-next}
 use Rattle.lemmas.specs.UpFrom.{upFrom-turn, upFrom-end}
 use Rattle.model.specs.Snapshot.{section, sameBytes, byteLong, countLong, numberLong, counterCount, countersLong, nextAt}
@@ -35,6 +35,10 @@ module _ {A : Type 0} where
       let e : at + length (s ++ t) ≡ n + length t = omega (arith, length-append s t) in
       rw (front, back, e) (simp append-assoc)
 
+  -- a list that a run is written over keeps its length
+  pub put-keeps : (d o s : List A) (at : ℕ) → at + length s ≤ length d → o ≡ put d at s → length o ≡ length d
+  put-keeps d o s at h e = rw e (length-put d at s h)
+
 -- how long a section of entries that are bytes already is: two bytes more than they
 pub section-long : (es : List (List ℕ)) → length (section asIs es) ≡ 2 + length (join es)
 unfolding section
@@ -50,16 +54,17 @@ front-laid es out o₁ o₂ at n h e₁ e e₂ =
     e₂ ∙ rw (e₁, e, map-id es, ← two) (put-before out at count (join es) (omega (arith, section-long es)))
 
 -- ---- entries written turn by turn
--- the entries of a turn are written: writing the others after them gives the same as before
+-- of all entries es are those of a turn, and fs those after it
 module _ {A : Type 0} (es fs all : List (List A)) (e : all ≡ es ++ fs) where
+  -- those of the turn are written: writing the others after them gives the same as before
   pub turn-laid : (d o : List A) (n m : ℕ) → n + length (join es) ≤ length d → o ≡ put d n (join es) → m ≡ n + length (join es) → put o m (join fs) ≡ put d n (join all)
   turn-laid d o n m h f g = rw (e, f, g, join-append es fs) (put-append d n (join es) (join fs) h)
 
-  -- how long all entries are
+  -- how long all are
   pub turn-length : length (join all) ≡ length (join es) + length (join fs)
   turn-length = rw (e, join-append es fs) (length-append (join es) (join fs))
 
-  -- how many there are
+  -- how many all are
   pub turn-count : length all ≡ length es + length fs
   turn-count = rw e (length-append es fs)
 
