@@ -146,3 +146,12 @@ counters-turn bs cs x y i same h e f g = rw (g, e, f, upFrom-turn i counterCount
 pub counters-over : (bs cs : List ℕ) (i : ℕ) → counterCount ≤ i → countersFrom i bs cs ≡ []
 unfolding counterEntries join
 counters-over bs cs i h = rw (upFrom-end i counterCount h)
+
+-- ---- the whole list
+-- three sections, written one after another
+pub three-laid : (d o₁ o₂ o₃ x y z : List ℕ) (n m : ℕ) → length (x ++ (y ++ z)) ≤ length d → o₁ ≡ put d 0 x → n ≡ length x → o₂ ≡ put o₁ n y → m ≡ n + length y → o₃ ≡ put o₂ m z → o₃ ≡ put d 0 (x ++ (y ++ z))
+three-laid d o₁ o₂ o₃ x y z n m h e i f j g =
+    let xs = length-append x (y ++ z) in
+    let ys = length-append y z in
+    let k = put-keeps d o₁ x 0 (omega arith) e in
+    put-next d o₁ o₃ 0 n x (y ++ z) (omega arith) e (omega arith) (put-next o₁ o₂ o₃ n m y z (omega arith) f j g)
