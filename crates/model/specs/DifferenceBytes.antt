@@ -1,5 +1,5 @@
 -- A list of differences as bytes, read back as a snapshot is, and the two calls on bytes: differing and patching. Assumes nothing.
-use Prim.Native.Nat.{ℕ}
+use Prim.Native.Nat.{ℕ, _+_, _*_}
 use mathlib.Core.Bool.{cond, _&&_}
 use mathlib.Core.List.{List, [], _∷_, _++_}
 use mathlib.Core.Option.{Option, none, some}
@@ -9,8 +9,8 @@ use Rattle.lemmas.specs.Lists.{keep}
 use Rattle.lemmas.specs.Little.{bytes}
 use Rattle.model.specs.Key.{Key}
 use Rattle.model.specs.Answer.{Answer, gives, refused, _⇒_, firstOf}
-use Rattle.model.specs.File.{Profile}
-use Rattle.model.specs.Snapshot.{sameBytes, writeKey, writeFile, section, Read, Reader, _>>=_, give, readNumber, readKey, readFile, readSection, byteLong, numberLong}
+use Rattle.model.specs.File.{Profile, maxFiles, levelCount, keyRoom}
+use Rattle.model.specs.Snapshot.{sameBytes, writeKey, writeFile, section, Read, Reader, _>>=_, give, readNumber, readKey, readFile, readSection, byteLong, numberLong, countLong, fileLong, entryLong, counterCount}
 use Rattle.model.specs.Calls.{write, read}
 use Rattle.model.specs.Difference.{Difference, onlyLeft, onlyRight, changed, pointerIs, counterIs, differences, goodList}
 use Rattle.model.specs.Patched.{patched}
@@ -27,6 +27,10 @@ rightKind = 1
 -- both have the number
 abbrev pub changedKind : ℕ
 changedKind = 2
+
+-- the bytes of its kind and its level
+abbrev pub headLong : ℕ
+headLong = 2 * byteLong
 
 -- ---- writing: three sections, each after a 2-byte count: files, pointers, counters; nothing follows
 -- the section of an entry
@@ -58,6 +62,11 @@ sectionAt k ds = keep (λ d. eqb (sectionOf d) k) ds
 -- the whole list
 unfoldable pub writeDifferences : List Difference → List ℕ
 writeDifferences ds = section writeDifference (sectionAt 0 ds) ++ (section writeDifference (sectionAt 1 ds) ++ section writeDifference (sectionAt 2 ds))
+
+-- the longest list of a full machine: a version of files that only the left has, a version of others on the right, each pointer and each counter
+abbrev pub longestList : ℕ
+longestList =
+    3 * countLong + maxFiles * (headLong + numberLong) + maxFiles * (headLong + fileLong + 2 * keyRoom) + levelCount * (entryLong + keyRoom) + counterCount * (byteLong + numberLong)
 
 -- ---- reading
 -- what follows the level in an entry of files, by its kind

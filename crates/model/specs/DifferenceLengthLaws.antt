@@ -23,7 +23,7 @@ use Rattle.model.specs.KeyLaws.{goodKey-says}
 use Rattle.model.specs.Formed.{WF}
 use Rattle.model.specs.SnapshotLaws.{section-length, writeKey-length, file-most}
 use Rattle.model.specs.Difference.{Difference, onlyLeft, onlyRight, changed, pointerIs, counterIs, earlier, hasNumber, differs, samePointer, counterAt, onlyLefts, onlyRights, changes, atLevel, pointerDifferences, counterDifferences, unordered, differences}
-use Rattle.model.specs.DifferenceBytes.{sectionOf, keyOf, writeDifference, sectionAt, writeDifferences}
+use Rattle.model.specs.DifferenceBytes.{sectionOf, keyOf, writeDifference, sectionAt, writeDifferences, longestList}
 use Rattle.model.specs.DifferenceListedLaws.{number-there, differs-says}
 
 -- ---- how long a list can be
@@ -238,7 +238,7 @@ list-length p s t ws wt = omega (
       p ws wt,
 )
 
--- the longest is at most 28505 bytes
-pub list-most-bytes : (s t : State) → WF full s → WF full t → length (writeDifferences (differences s t)) ≤ 28505
+-- no list of a full machine is longer than the longest
+pub list-most-bytes : (s t : State) → WF full s → WF full t → length (writeDifferences (differences s t)) ≤ longestList
 unfolding full
 list-most-bytes s t ws wt = list-length full s t ws wt

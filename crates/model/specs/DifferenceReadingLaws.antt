@@ -195,7 +195,7 @@ goodList-says p ds = (
 )
 
 -- the three sections are read as they were written
-reads-list : (p : Profile) → Fits p → (ds : List Difference) → goodList p ds ≡ true → length ds < 65536 → Reads readDifferences (writeDifferences ds) ds
+reads-list : (p : Profile) → Fits p → (ds : List Difference) → goodList p ds ≡ true → ((k : ℕ) → length (sectionAt k ds) < 65536) → Reads readDifferences (writeDifferences ds) ds
 unfolding readDifferences writeDifferences
 reads-list p fit ds g few =
     let w = goodList-says p ds .0 g in
@@ -206,22 +206,26 @@ reads-list p fit ds g few =
     let wb = section writeDifference b in
     let wc = section writeDifference c in
     let all = a ++ (b ++ c) in
-    let ra = reads-section readFileDifference writeDifference a (λ d m. let r = section-in 0 ds d .0 m in reads-files p fit d (r .1) (w .0 d (r .0))) (omega (arith, section-few 0 ds)) in
-    let rb = reads-section readPointerDifference writeDifference b (λ d m. let r = section-in 1 ds d .0 m in reads-pointers p fit d (r .1) (w .0 d (r .0))) (omega (arith, section-few 1 ds)) in
-    let rc = reads-section readCounterDifference writeDifference c (λ d m. let r = section-in 2 ds d .0 m in reads-counters p fit d (r .1) (w .0 d (r .0))) (omega (arith, section-few 2 ds)) in
+    let ra = reads-section readFileDifference writeDifference a (λ d m. let r = section-in 0 ds d .0 m in reads-files p fit d (r .1) (w .0 d (r .0))) (few 0) in
+    let rb = reads-section readPointerDifference writeDifference b (λ d m. let r = section-in 1 ds d .0 m in reads-pointers p fit d (r .1) (w .0 d (r .0))) (few 1) in
+    let rc = reads-section readCounterDifference writeDifference c (λ d m. let r = section-in 2 ds d .0 m in reads-counters p fit d (r .1) (w .0 d (r .0))) (few 2) in
     subst (λ (es : List Difference). Reads (readSection readFileDifference >>= λ fs. readSection readPointerDifference >>= λ ps. readSection readCounterDifference >>= λ cs. give (fs ++ (ps ++ cs))) (wa ++ (wb ++ wc)) es)
     (sections-back ds (w .1))
     (then (readSection readFileDifference) (λ fs. readSection readPointerDifference >>= λ ps. readSection readCounterDifference >>= λ cs. give (fs ++ (ps ++ cs))) wa (wb ++ wc) a all ra
     (then (readSection readPointerDifference) (λ ps. readSection readCounterDifference >>= λ cs. give (a ++ (ps ++ cs))) wb wc b all rb
     (reads-as (readSection readCounterDifference >>= λ cs. give (a ++ (b ++ cs))) (wc ++ []) wc all (append-nil wc) (then (readSection readCounterDifference) (λ cs. give (a ++ (b ++ cs))) wc [] c all rc (gives-it all)))))
 
--- a good list is read back
-pub decodeList-back : (p : Profile) → Fits p → (ds : List Difference) → goodList p ds ≡ true → length ds < 65536 → decodeList p (writeDifferences ds) ≡ some ds
+-- a good list is read back, if the count of each section fits its two bytes
+pub decodeList-sections : (p : Profile) → Fits p → (ds : List Difference) → goodList p ds ≡ true → ((k : ℕ) → length (sectionAt k ds) < 65536) → decodeList p (writeDifferences ds) ≡ some ds
 unfolding decodeList acceptList Reads
-decodeList-back p fit ds g few =
+decodeList-sections p fit ds g few =
     let r : readDifferences (writeDifferences ds) ≡ some (record { value = ds; rest = [] }) = rw append-nil at (reads-list p fit ds g few []) in
     let b : sameBytes (writeDifferences ds) (writeDifferences ds) ≡ true = eq-same (writeDifferences ds) in
     rw (r, acceptList, g, b)
+
+-- which it does in a list of fewer entries
+pub decodeList-back : (p : Profile) → Fits p → (ds : List Difference) → goodList p ds ≡ true → length ds < 65536 → decodeList p (writeDifferences ds) ≡ some ds
+decodeList-back p fit ds g few = decodeList-sections p fit ds g (λ k. omega (arith, section-few k ds))
 
 -- what is read is a good list and writes these very bytes
 pub decodeList-sound : (p : Profile) (bs : List ℕ) (ds : List Difference) → decodeList p bs ≡ some ds → (goodList p ds ≡ true) × (writeDifferences ds ≡ bs)

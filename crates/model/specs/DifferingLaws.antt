@@ -20,7 +20,7 @@ use Rattle.model.specs.SnapshotLaws.{Fits}
 use Rattle.model.specs.Reading.{asRead, as-read-formed, decode-sound, decode-encode}
 use Rattle.model.specs.Difference.{Difference, differences, goodList}
 use Rattle.model.specs.Patched.{patched}
-use Rattle.model.specs.DifferenceBytes.{writeDifferences, decodeList, onGiven, fitting, differing, orNoList, patching}
+use Rattle.model.specs.DifferenceBytes.{writeDifferences, decodeList, onGiven, fitting, differing, orNoList, patching, longestList}
 use Rattle.model.specs.DifferenceLaws.{nothing-listed, differences-read}
 use Rattle.model.specs.PatchedLaws.{patched-right, patched-bytes, patched-read}
 use Rattle.model.specs.DifferenceLengthLaws.{differences-few, list-most-bytes}
@@ -120,8 +120,8 @@ differing-nothing p fit left right room d h =
       λ e. sym (w .bytes) ∙ ap writeDifferences (n .1 (ss .1 ∙ e ∙ sym (tt′ .1))),
     )
 
--- the full machine's lists fit in 28505 bytes: 13 is not given there
-pub differing-room : (left right : List ℕ) (room : ℕ) (s t : State) → decode full left ≡ some s → decode full right ≡ some t → 28505 ≤ room → differing full left right room ≡ gives (writeDifferences (differences s t))
+-- with room for the longest list 13 is not given
+pub differing-room : (left right : List ℕ) (room : ℕ) (s t : State) → decode full left ≡ some s → decode full right ≡ some t → longestList ≤ room → differing full left right room ≡ gives (writeDifferences (differences s t))
 differing-room left right room s t e f h =
     differing-gives full left right room s t e f (omega (arith, list-most-bytes s t (snapshot-says full left s e .0) (snapshot-says full right t f .0)))
 

@@ -27,7 +27,7 @@ use Rattle.snapshot_parse.specs.BackLaws.{state-back}
 use Rattle.snapshot_write.specs.declared.Written.the-variants.{Bytes, Refused}
 use Rattle.snapshot_write.specs.Writing.{writtenOf, snapshotOf}
 use Rattle.snapshot_write.specs.WritingLaws.{written-ill, written-well, snapshot-most}
-use Rattle.snapshot_read.specs.Reading.{writesThese}
+use Rattle.snapshot_read.specs.Reading.{writesThese, isSome, isSnapshot}
 
 -- ---- the test of a store
 
@@ -142,3 +142,13 @@ module _ (bs : List ℕ) where
       go : (o : Option State) → decode full bs ≡ o → stored old (refused 14) ≡ stored old (calls.orBad o)
       go none e = refl
       go (some t) e = clash (parsed t e) h
+
+  -- bytes are a snapshot exactly if the store parsed from them writes them
+  pub snapshot-is : writesThese candidate bs ≡ isSnapshot bs
+  unfolding isSnapshot isSome
+  snapshot-is = go (writesThese candidate bs) refl (decode full bs) refl
+    where
+      go : (b : Bool) → writesThese candidate bs ≡ b → (o : Option State) → decode full bs ≡ o → b ≡ isSome o
+      go true h o e = sym (ap isSome (sym e ∙ decoded h))
+      go false h none e = refl
+      go false h (some t) e = clash (parsed t e) h

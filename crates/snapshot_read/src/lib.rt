@@ -3,7 +3,7 @@ ghost use mathlib.Core.Path.{_≡_};
 ghost use Rattle.model.specs.File.{full, fresh};
 ghost use Rattle.model.specs.Calls as calls;
 ghost use Rattle.store.specs.Store.{storeOf, stored};
-ghost use Rattle.snapshot_read.specs.Reading.{writesThese};
+ghost use Rattle.snapshot_read.specs.Reading.{writesThese, isSnapshot};
 use answers::Outcome;
 use answers::Refusal;
 use snapshot_parts::Snapshot;
@@ -42,4 +42,12 @@ pub fn read(src: &[u8]) -> Stored
     }
     let none = store::fresh_store();
     store::refuse(none, Refusal::FORM)
+}
+
+// Whether bytes are a snapshot. Internal.
+pub fn is_snapshot(src: &[u8]) -> bool
+    ensures { λ r. ⌜ r ≡ isSnapshot (now (src .entry)) ⌝ }
+{
+    let s = snapshot_parse::parse(src);
+    writes(s, src)
 }
