@@ -29,8 +29,8 @@ struct Laid {
     listed: usize,
 }
 
-// The places after a turn. Requires: a side that it does not pass by has a part left.
-fn advanced(p: Places, t: Turn) -> Places
+// The places after a turn. Internal. Requires: a side that it does not pass by has a part left.
+pub fn advanced(p: Places, t: Turn) -> Places
     requires { ⌜ (eqb (t .kind) rightKind ≡ false → 0 < p .lefts) × (eqb (t .kind) leftKind ≡ false → 0 < p .rights) ⌝ }
     ensures { λ r. ⌜ r ≡ advancedBy p t ⌝ }
 {

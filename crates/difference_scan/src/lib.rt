@@ -95,8 +95,8 @@ pub fn goes_first(n: usize, x: u64, m: usize, y: u64) -> bool
     x < y
 }
 
-// What a turn finds, of two runs with n and m parts left, whose first numbers are x and y: `same` tells whether these parts have the same bytes.
-fn kind_by(n: usize, x: u64, m: usize, y: u64, same: bool) -> u8
+// What a turn finds, of two runs with n and m parts left, whose first numbers are x and y: `same` tells whether these parts have the same bytes. Internal.
+pub fn kind_by(n: usize, x: u64, m: usize, y: u64, same: bool) -> u8
     ensures { λ r. ⌜ r ≡ kindBy n x m y same ⌝ }
 {
     if goes_first(n, x, m, y) {

@@ -1,2 +1,4 @@
 pub mod Listed
 pub mod Outcome
+pub mod Over
+pub mod OverLaws

@@ -1,0 +1,1 @@
+-- Laws of a list laid over a snapshot turn by turn. Assumes nothing.
