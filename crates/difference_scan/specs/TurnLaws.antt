@@ -14,9 +14,9 @@ use Rattle.lemmas.specs.Order.{clash}
 use Rattle.lemmas.specs.Compare.{compare, compare-left-end, compare-right-end, compare-left, compare-right, compare-same, compare-other}
 use Rattle.model.specs.Snapshot.{sameBytes}
 use Rattle.model.specs.DifferenceBytes.{leftKind, rightKind, changedKind}
-use Rattle.snapshot_parse.specs.Parsing.{numberIn, afterKey, keyLength, afterFile, afterEntry, partsIn, afterParts}
+use Rattle.snapshot_parse.specs.Parsing.{At, numberIn, afterKey, keyLength, afterFile, afterEntry, partsIn, afterParts}
 use Rattle.difference_scan.specs.Scan.{afterPart, partBytes, riseLong, riseOf, partsAt, afterAll, leftEntry, rightEntry, runEntries, sameKind, goesFirst, kindBy, kindAt, entryOf}
-use Rattle.difference_scan.specs.Turns.{entriesOf, leftOver, bytesAfter}
+use Rattle.difference_scan.specs.Turns.{entriesOf, leftOver, placeAfter, bytesAfter}
 
 -- ---- a part
 -- after a part its number is gone, if the bytes have it
@@ -66,6 +66,25 @@ parts-none p bs = refl
 pub entries-none : (p : Bool) (l : ℕ) (bs cs : List ℕ) → entriesOf p l 0 bs 0 cs ≡ []
 unfolding entriesOf runEntries compare partsAt partsIn
 entries-none p l bs cs = refl
+
+-- ---- a side after a turn of kind k, where kind o passes it by
+-- its place is that of the bytes that are left
+pub place-after : (o k at end : ℕ) (src after : List ℕ) → at ≤ length src → At src end after → At src (placeAfter o k at end) (cond (eqb k o) (drop at src) after)
+unfolding placeAfter
+place-after o k at end src after h t = go (eqb k o)
+  where
+    go : (b : Bool) → At src (cond b at end) (cond b (drop at src) after)
+    go true = record { within = h; rest = refl }
+    go false = t
+
+-- fewer parts are left of it, or as many
+pub over-less : (o k n : ℕ) → leftOver o k n ≤ n
+unfolding leftOver
+over-less o k n = go (eqb k o)
+  where
+    go : (b : Bool) → cond b n (n - 1) ≤ n
+    go true = omega arith
+    go false = omega arith
 
 -- ---- a turn
 -- a part goes first: it is there, and the other is not, or has a higher number

@@ -1,4 +1,7 @@
 pub mod Listed
 pub mod Outcome
 pub mod Over
+pub mod Ends
 pub mod OverLaws
+pub mod FittedLaws
+pub mod OverRunLaws
