@@ -1,4 +1,5 @@
 pub mod Listed
+pub mod ListedLaws
 pub mod Outcome
 pub mod Over
 pub mod Ends
