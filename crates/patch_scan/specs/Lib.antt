@@ -1,8 +1,8 @@
 pub mod Listed
-pub mod ListedLaws
 pub mod Outcome
 pub mod Over
 pub mod Ends
+pub mod ListedLaws
 pub mod OverLaws
 pub mod FittedLaws
 pub mod OverRunLaws

@@ -104,7 +104,7 @@ module _ (list : List ℕ) (level n i next : ℕ) where
 -- ---- entries passed by
 module _ (p : Bool) where
   -- the bytes after some entries are those after the others
-  each-first : (n : ℕ) (bs : List ℕ) → 0 < n → afterEach p n bs ≡ afterEach p (n - 1) (afterListed p bs)
+  pub each-first : (n : ℕ) (bs : List ℕ) → 0 < n → afterEach p n bs ≡ afterEach p (n - 1) (afterListed p bs)
   unfolding afterEach afterParts
   each-first zero bs h = absurd (omega arith)
   each-first (suc n) bs h = let e : suc n - 1 ≡ n = omega arith in rw e

@@ -21,6 +21,7 @@ use Rattle.difference_scan.specs.Turns.{leftOver, bytesAfter}
 use Rattle.difference_scan.specs.TurnLaws.{after-short, part-rise, parts-first, all-first, parts-none, first-says, both-there}
 use Rattle.patch_scan.specs.Listed.{kindIn, afterListed, listedBytes, namedOf, broughtBy, listedAt, afterEach, overRun}
 use Rattle.patch_scan.specs.Over.{overKind, pieceOf, listedAfter}
+use Rattle.patch_scan.specs.ListedLaws.{each-first}
 
 -- ---- one turn of a list laid over another
 module _ {A E : Type 0} (key : A → ℕ) (of : E → ℕ) (brings : E → List A) where
@@ -83,12 +84,6 @@ listed-first : (p : Bool) (n : ℕ) (cs : List ℕ) → 0 < n → listedAt p n c
 unfolding listedAt partsIn
 listed-first p zero cs h = absurd (omega arith)
 listed-first p (suc n) cs h = let e : suc n - 1 ≡ n = omega arith in rw e
-
--- the bytes after them are those after the others
-pub each-first : (p : Bool) (n : ℕ) (cs : List ℕ) → 0 < n → afterEach p n cs ≡ afterEach p (n - 1) (afterListed p cs)
-unfolding afterEach afterParts
-each-first p zero cs h = absurd (omega arith)
-each-first p (suc n) cs h = let e : suc n - 1 ≡ n = omega arith in rw e
 
 -- no entries
 listed-none : (p : Bool) (cs : List ℕ) → listedAt p 0 cs ≡ []
