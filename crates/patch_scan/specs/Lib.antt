@@ -1,3 +1,5 @@
 pub mod Listed
 pub mod Outcome
+pub mod OverlayMapLaws
+pub mod EntryLaws
 pub mod OutcomeLaws
