@@ -2,4 +2,6 @@ pub mod Listed
 pub mod Outcome
 pub mod OverlayMapLaws
 pub mod EntryLaws
+pub mod RunLaws
+pub mod LevelLaws
 pub mod OutcomeLaws
