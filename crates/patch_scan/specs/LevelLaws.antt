@@ -1,21 +1,20 @@
 -- The entries of files, which stand level after level, laid over the levels of a snapshot. Assumes nothing.
 use Prim.Native.Nat.{ℕ, zero, suc, _+_, _-_, _≤_, _<_}
-use mathlib.Core.Path.{_≡_, refl, ap, sym, _∙_}
+use mathlib.Core.Path.{_≡_, refl}
 use mathlib.Core.Logic.{inl}
 use mathlib.Core.Bool.{Bool, true, false}
-use mathlib.Core.List.{List, _++_, map, map-append, append-assoc, List·Memᴰ as In}
+use mathlib.Core.List.{List, _++_, map, List·Memᴰ as In}
 use native.Mathlib.Omega.{arith}
 use borrow.Author.Tests.{eq-eqb, ltb-true}
 use lib.Dec.{eqb, ltb}
-use lib.ListN.{length, drop, length-append, length-map}
+use lib.ListN.{length, length-append, length-map}
 use Rattle.lemmas.specs.Order.{clash, nat-order}
 use Rattle.lemmas.specs.Lists.{keep, sort, chain, join, upFrom}
 use Rattle.lemmas.specs.ListLaws.{and-left, keep-in, upFrom-in, sub-chain, sub-keep, map-same}
 use Rattle.lemmas.specs.Maps.{of-join-map}
 use Rattle.lemmas.specs.Once.{in-join-map, strict-one}
 use Rattle.lemmas.specs.Rising.{upFrom-rising, strict-join}
-use Rattle.lemmas.specs.Slices.{join-append}
-use Rattle.model.specs.File.{File, State, full, level, goodFile, levelCount}
+use Rattle.model.specs.File.{State, full, level, levelCount}
 use Rattle.model.specs.Formed.{WF}
 use Rattle.model.specs.Snapshot.{byNumber, writeFile, section, writeLevel}
 use Rattle.model.specs.Difference.{Difference, onlyLeft, onlyRight, changed, pointerIs, counterIs, earlier, goodDifference, goodList}
@@ -29,8 +28,8 @@ use Rattle.difference_scan.specs.WrittenLaws.{section-past}
 use Rattle.difference_scan.specs.ListingLaws.{files-written, levelsFrom, stored, level-fits}
 use Rattle.patch_scan.specs.Listed.{levelIn}
 use Rattle.patch_scan.specs.Outcome.{levelsOver}
-use Rattle.patch_scan.specs.EntryLaws.{Entered, files-entered}
-use Rattle.patch_scan.specs.RunLaws.{Ends, listed-back, run-back, over-back}
+use Rattle.patch_scan.specs.EntryLaws.{Ends, EnteredAt, files-entered}
+use Rattle.patch_scan.specs.RunLaws.{listed-back, written-on, run-back, over-back}
 
 -- items that were written are a section as they are
 pub written-section : {A : Type 0} (w : A → List ℕ) (xs : List A) → section asIs (map w xs) ≡ section w xs
@@ -62,13 +61,17 @@ module _ (ds : List Difference) (g : goodList full ds ≡ true) where
   entriesFrom l k = join (map (λ l. ofLevel l ds) (upFrom l k))
 
   -- the entries that pass a test are in order
-  kept-ordered : (q : Difference → Bool) → chain earlier (keep q ds) ≡ true
+  pub kept-ordered : (q : Difference → Bool) → chain earlier (keep q ds) ≡ true
   kept-ordered q = sub-chain earlier (λ d. Unit {0}) (λ a b d u. earlier-order .trans a b d) (λ d m. tt) (sub-keep q ds) (goodList-says full ds .0 g .1)
 
   -- an entry of a level, as it was written
-  pub level-entered : (l : ℕ) (d : Difference) → In d (ofLevel l ds) → Entered false writeFile numberNamed (brings l) d × ((y : List ℕ) → levelIn (writeDifference d ++ y) ≡ l)
+  pub level-entered : (l : ℕ) (d : Difference) → In d (ofLevel l ds) → EnteredAt l d
   unfolding ofLevel
   level-entered l d m = let r = keep-in (isOfLevel l) ds d .0 m in files-entered l d (r .1) (goodList-says full ds .0 g .0 d (r .0))
+
+  -- an entry of a section is good
+  pub section-good : (k : ℕ) (d : Difference) → In d (sectionAt k ds) → (sectionOf d ≡ k) × (goodDifference full d ≡ true)
+  section-good k d m = let r = section-in k ds d .0 m in (r .1, goodList-says full ds .0 g .0 d (r .0))
 
   -- the section of files is its levels, one after another
   pub files-by-level : sectionAt 0 ds ≡ entriesFrom 0 levelCount
@@ -84,15 +87,22 @@ module _ (ds : List Difference) (g : goodList full ds ≡ true) where
 
       from : (d : Difference) → In d (sectionAt 0 ds) → In d (entriesFrom 0 levelCount)
       from d m =
-          let r = section-in 0 ds d .0 m in
-          let v = section-level d (r .1) (goodList-says full ds .0 g .0 d (r .0)) in
-          in-join-map (λ l. ofLevel l ds) (upFrom 0 levelCount) (v .0) d (upFrom-in 0 levelCount (v .0) .1 (omega arith, omega (arith, v .1))) (keep-in (isOfLevel (v .0)) ds d .1 (r .0, v .2))
+          let r = section-good 0 d m in
+          let v = section-level d (r .0) (r .1) in
+          in-join-map (λ l. ofLevel l ds) (upFrom 0 levelCount) (v .0) d (upFrom-in 0 levelCount (v .0) .1 (omega arith, omega (arith, v .1))) (keep-in (isOfLevel (v .0)) ds d .1 (section-in 0 ds d .0 m .0, v .2))
 
       to : (d : Difference) → In d (entriesFrom 0 levelCount) → In d (sectionAt 0 ds)
       to d m =
           let v = of-join-map (λ l. ofLevel l ds) (upFrom 0 levelCount) d m in
           let r = keep-in (isOfLevel (v .0)) ds d .0 (v .2) in
           section-in 0 ds d .1 (r .0, level-section (v .0) d (r .1))
+
+  -- the end of each of its entries is found
+  pub files-end : (d : Difference) → In d (sectionAt 0 ds) → Ends false d
+  files-end d m =
+      let r = section-good 0 d m in
+      let v = section-level d (r .0) (r .1) in
+      files-entered (v .0) d (v .2) (r .1) .0 .ends
 
   module _ (s : State) (w : WF full s) where
     -- the entries of k levels laid over the sections of those levels give the sections of the patched state
@@ -108,11 +118,18 @@ module _ (ds : List Difference) (g : goodList full ds ≡ true) where
         let z = join (map writeDifference bs) ++ y in
         let few = stored s w .levels l .few in
         let run = run-back l as′ bs y (λ d m. let r = level-entered l d m in (r .0 .ends, r .1)) later in
-        let all : join (map writeDifference (as′ ++ bs)) ++ y ≡ join (map writeDifference as′) ++ z =
-            ap (λ (bs : List ℕ). bs ++ y) (ap join (map-append writeDifference as′ bs) ∙ join-append (map writeDifference as′) (map writeDifference bs)) ∙ append-assoc (join (map writeDifference as′)) (join (map writeDifference bs)) y in
         let more : length (as′ ++ bs) - length as′ ≡ length bs = omega (arith, length-append as′ bs) in
-        rw (run, more, all, over-back (files-written l) numberNamed (brings l) fs as′ x z (level-fits s w l) few (λ d m. level-entered l d m .0), section-past (files-written l) fs x (level-fits s w l) few,
-        listed-back false as′ z (λ d m. level-entered l d m .0 .ends) .1, levels-over k (suc l) y (omega arith), ← overlaid-level full s ds w g l (omega arith), written-section writeFile (sort byNumber (level (patched s ds) l)))
+        rw (
+          run,
+          more,
+          written-on writeDifference as′ bs y,
+          over-back (files-written l) numberNamed (brings l) fs as′ x z (level-fits s w l) few (λ d m. level-entered l d m .0),
+          section-past (files-written l) fs x (level-fits s w l) few,
+          listed-back false as′ z (λ d m. level-entered l d m .0 .ends) .1,
+          levels-over k (suc l) y (omega arith),
+          ← overlaid-level full s ds w g l (omega arith),
+          written-section writeFile (sort byNumber (level (patched s ds) l)),
+        )
       where
         later : (d : Difference) → In d (entriesFrom (suc l) k) → (y : List ℕ) → levelIn (writeDifference d ++ y) ≡ l → ⊥
         later d m y e =

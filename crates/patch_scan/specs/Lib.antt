@@ -4,4 +4,5 @@ pub mod OverlayMapLaws
 pub mod EntryLaws
 pub mod RunLaws
 pub mod LevelLaws
+pub mod CounterLaws
 pub mod OutcomeLaws

@@ -1,6 +1,6 @@
 -- Items and entries in another form, one list laid over the other: what is left is the same in that form. Assumes nothing.
 use Prim.Native.Nat.{ℕ}
-use mathlib.Core.Path.{_≡_, refl, ap, sym, _∙_}
+use mathlib.Core.Path.{_≡_, refl, ap, sym}
 use mathlib.Core.Bool.{Bool, true, false, cond}
 use mathlib.Core.List.{List, [], _∷_, _++_, map, map-append, List·Memᴰ as In, List·Memᴰ·head as here, List·Memᴰ·tail as there}
 use lib.Dec.{ltb}
@@ -17,6 +17,7 @@ module _ {A B E F : Type 0} (key : A → ℕ) (of : E → ℕ) (brings : E → L
   brought : (e : E) (bs : List B) (as′ : List A) → Alike e → bs ≡ map g as′ → brings′ (h e) ++ bs ≡ map g (brings e ++ as′)
   brought e bs as′ k ih = rw (k .1, ih) (sym (map-append g (brings e) as′))
 
+  -- so what is left is the same in either form
   pub overlay-map : (xs : List A) (es : List E) → ((x : A) → In x xs → key′ (g x) ≡ key x) → ((e : E) → In e es → Alike e) → overlay key′ of′ brings′ (map g xs) (map h es) ≡ map g (overlay key of brings xs es)
   unfolding overlay overlayOne join
   overlay-map [] [] p q = refl

@@ -2,14 +2,15 @@
 use Prim.Native.Nat.{ℕ, _-_, _<_}
 use mathlib.Core.Path.{_≡_, refl, ap, subst}
 use mathlib.Core.Bool.{Bool, false}
-use mathlib.Core.List.{List, [], _∷_, _++_, map, append-assoc, List·Memᴰ as In, List·Memᴰ·head as here, List·Memᴰ·tail as there, Memᴰ·of-map as of-map}
+use mathlib.Core.List.{List, [], _∷_, _++_, map, map-append, append-assoc, List·Memᴰ as In, List·Memᴰ·head as here, List·Memᴰ·tail as there, Memᴰ·of-map as of-map}
 use native.Mathlib.Omega.{arith}
 use borrow.Author.Tests.{eq-eqb, ne-eqb}
-use lib.ListN.{length, take, drop, length-append, length-map}
+use lib.ListN.{length, drop, length-append, length-map}
 use lib.Seq.{take-at}
 use Rattle.lemmas.specs.Lists.{join}
 use Rattle.lemmas.specs.ListLaws.{map-same}
 use Rattle.lemmas.specs.Compare.{overlay}
+use Rattle.lemmas.specs.Slices.{join-append}
 use Rattle.model.specs.Snapshot.{section, countLong}
 use Rattle.model.specs.Difference.{Difference}
 use Rattle.model.specs.DifferenceBytes.{writeDifference}
@@ -20,13 +21,9 @@ use Rattle.difference_scan.specs.Listing.{asIs}
 use Rattle.difference_scan.specs.WrittenLaws.{Written, parts-cut, rise-back}
 use Rattle.patch_scan.specs.Listed.{levelIn, afterListed, listedBytes, namedOf, broughtBy, listedAt, afterEach, overRun, runLong}
 use Rattle.patch_scan.specs.OverlayMapLaws.{overlay-map}
-use Rattle.patch_scan.specs.EntryLaws.{Entered}
+use Rattle.patch_scan.specs.EntryLaws.{Ends, Entered}
 
 -- ---- entries in the bytes
--- the end of an entry is found, whatever follows
-abbrev pub Ends : Bool → Difference → Type 0
-Ends p d = (y : List ℕ) → afterListed p (writeDifference d ++ y) ≡ y
-
 -- an entry whose end is found is cut as it is
 listed-cut : (p : Bool) (a y : List ℕ) → afterListed p (a ++ y) ≡ y → listedBytes p (a ++ y) ≡ a
 unfolding listedBytes
@@ -46,7 +43,16 @@ listed-back p ds x ends = rw (map-same, length-map) at (parts-back asIs (listedB
         let e = subst (λ (b : List ℕ). afterListed p (b ++ y) ≡ y) (v .2) (ends (v .0) (v .1) y) in
         (listed-cut p b y e, e)
 
+-- the bytes behind a section of entries
+pub entries-past : (p : Bool) (ds : List Difference) (x : List ℕ) → length ds < 65536 → ((d : Difference) → In d ds → Ends p d)
+    → afterEach p (numberIn countLong (section writeDifference ds ++ x)) (drop countLong (section writeDifference ds ++ x)) ≡ x
+entries-past p ds x i ends = rw (count-back writeDifference ds x i, count-rest writeDifference ds x) (listed-back p ds x ends .1)
+
 -- ---- entries of one level
+-- what is written of two lists, one after the other, with more bytes behind
+pub written-on : {A : Type 0} (w : A → List ℕ) (xs ys : List A) (x : List ℕ) → join (map w (xs ++ ys)) ++ x ≡ join (map w xs) ++ (join (map w ys) ++ x)
+written-on w xs ys x = rw (map-append w xs ys, join-append (map w xs) (map w ys)) (append-assoc (join (map w xs)) (join (map w ys)) x)
+
 -- entries of a level, then entries of other levels: the run is as long as there are of the level
 pub run-back : (l : ℕ) (as′ bs : List Difference) (x : List ℕ) → ((d : Difference) → In d as′ → Ends false d × ((y : List ℕ) → levelIn (writeDifference d ++ y) ≡ l))
     → ((d : Difference) → In d bs → (y : List ℕ) → levelIn (writeDifference d ++ y) ≡ l → ⊥) → runLong l (length (as′ ++ bs)) (join (map writeDifference (as′ ++ bs)) ++ x) ≡ length as′
