@@ -6,3 +6,9 @@ pub mod ListedLaws
 pub mod OverLaws
 pub mod FittedLaws
 pub mod OverRunLaws
+pub mod OverlayMapLaws
+pub mod EntryLaws
+pub mod RunLaws
+pub mod LevelLaws
+pub mod CounterLaws
+pub mod OutcomeLaws

@@ -23,12 +23,12 @@ use Rattle.snapshot_parse.specs.Parsing.{numberIn, keyLength, keyIn, aft
 
 module _ (w n : ℕ) (x : List ℕ) where
   -- a number that was written is read back
-  number-back : n < 256 ^ w → numberIn w (bytes w n ++ x) ≡ n
+  pub number-back : n < 256 ^ w → numberIn w (bytes w n ++ x) ≡ n
   unfolding numberIn
   number-back h = ap number (take-at (bytes w n) x w (bytes-length w n)) ∙ bytes-number w n h
 
   -- the bytes after it
-  number-past : drop w (bytes w n ++ x) ≡ x
+  pub number-past : drop w (bytes w n ++ x) ≡ x
   number-past = drop-at (bytes w n) x w (bytes-length w n)
 
 module _ (k x : List ℕ) (h : length k ≤ keyRoom) where
@@ -61,9 +61,9 @@ module _ (k x : List ℕ) (h : length k ≤ keyRoom) where
 -- a file whose numbers fit their widths and whose keys fit their room
 pub record Fit (f : File) : Type 0 where
   pub number : f .number < 256 ^ 8
-  size : f .size < 256 ^ 8
-  smallest : length (f .smallest) ≤ keyRoom
-  largest : length (f .largest) ≤ keyRoom
+  pub size : f .size < 256 ^ 8
+  pub smallest : length (f .smallest) ≤ keyRoom
+  pub largest : length (f .largest) ≤ keyRoom
 
 module _ (f : File) (x : List ℕ) (h : Fit f) where
   -- the bytes of the file's keys and those after it
