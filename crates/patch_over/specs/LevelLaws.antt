@@ -1,0 +1,1 @@
+-- Laws of the levels of an outcome, written section by section as far as the output has room. Assumes nothing.
