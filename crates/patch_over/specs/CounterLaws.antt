@@ -140,3 +140,60 @@ module _ (left list : List ℕ) where
         let k : counterCount - i ≡ suc (counterCount - (i + 1)) = omega (arith, f .below) in
         let n : suc i ≡ i + 1 = omega arith in
         rw (k, ← f .says, e, n, counter-lent left i x x′ (f .at-left) (f .up-left) (f .end-left))
+
+    module _ {o : List ℕ} {n₀ rest₀ list-at₀ : ℕ} {out : List ℕ} {next : ℕ} (w : CountersWritten o n₀ rest₀ list-at₀ out rest list-at next i) (out′ : List ℕ) (next′ count : ℕ) where
+      -- what is left, joined, where it begins with this counter
+      counter-begun : (more : List (List ℕ)) → countersLeft i rest list-at ≡ counter ∷ more → Fitted out next (counter ∷ []) out′ next′ count true
+          → Begun o n₀ (join (countersLeft 0 rest₀ list-at₀)) out′ next′ (join more)
+      unfolding join
+      counter-begun more e g = begun-on o n₀ (join (countersLeft 0 rest₀ list-at₀)) out next (join (countersLeft i rest list-at)) (w .begun) counter (join more) (ap join e) out′ next′ count g
+
+      -- it is written, of the list: how far the counters are written then
+      pub counter-named : Fitted out next (counter ∷ []) out′ next′ count true → named ≡ true → CountersWritten o n₀ rest₀ list-at₀ out′ (rest - 1) y′ next′ (i + 1)
+      counter-named g e = record { few = omega (arith, f .below); in-list = f .end-list .within; begun = counter-begun (countersLeft (i + 1) (rest - 1) y′) (named-first e) g }
+
+      -- it is written, of the snapshot
+      pub counter-kept : Fitted out next (counter ∷ []) out′ next′ count true → named ≡ false → CountersWritten o n₀ rest₀ list-at₀ out′ rest list-at next′ (i + 1)
+      counter-kept g e = record { few = omega (arith, f .below); in-list = f .in-list; begun = counter-begun (countersLeft (i + 1) rest list-at) (kept-first e) g }
+
+  -- the entries follow their count, at place b of the list, and the count of the counters was written before them, at place `at` of the output
+  module _ (out₀ : List ℕ) (at b : ℕ) (o : List ℕ) (rest₀ list-at₀ : ℕ) (room : at + countLong ≤ length out₀) (counted : o ≡ put out₀ at (bytes countLong counterCount))
+      (reads : rest₀ ≡ numberIn countLong (drop b list)) (starts : At list list-at₀ (drop countLong (drop b list))) where
+    -- the section of the counters
+    abbrev pub countersSection : List ℕ
+    countersSection = section asIs (countersOver 0 counterCount left (numberIn countLong (drop b list)) (drop countLong (drop b list)))
+
+    -- it is its count, then the counters that are written
+    section-is : countersSection ≡ bytes countLong counterCount ++ join (countersLeft 0 rest₀ list-at₀)
+    section-is =
+        let z : counterCount - 0 ≡ counterCount = omega arith in
+        rw (z, reads, starts .rest)
+        (section-count (countersOver 0 counterCount left (numberIn countLong (drop b list)) (drop countLong (drop b list))) counterCount (counters-many 0 counterCount left (numberIn countLong (drop b list)) (drop countLong (drop b list))))
+
+    -- so much of it is written
+    section-begun : (out : List ℕ) (rest list-at next i : ℕ) → CountersWritten o (at + countLong) rest₀ list-at₀ out rest list-at next i → Begun out₀ at countersSection out next (join (countersLeft i rest list-at))
+    section-begun out rest list-at next i w =
+        let two = bytes-length countLong counterCount in
+        rw (section-is) (begun-before out₀ at (bytes countLong counterCount) o (at + countLong) (join (countersLeft 0 rest₀ list-at₀)) out next (join (countersLeft i rest list-at)) (omega arith) counted (omega arith) (w .begun))
+
+    -- a counter does not fit: nor does the section
+    pub counter-full : (i rest list-at : ℕ) (named : Bool) (y y′ x x′ : ℕ) (f : CounterFound i rest list-at named y y′ x x′) (out : List ℕ) (next : ℕ) → CountersWritten o (at + countLong) rest₀ list-at₀ out rest list-at next i
+        → (out′ : List ℕ) (next′ count : ℕ) → Fitted out next (counter i rest list-at named y y′ x x′ f ∷ []) out′ next′ count false → (n m : ℕ) → Fitted out₀ at (countersSection ∷ []) out′ n m false
+    unfolding join
+    counter-full i rest list-at named y y′ x x′ f out next w out′ next′ count g n m = go named refl
+      where
+        full : (more : List (List ℕ)) → countersLeft i rest list-at ≡ counter i rest list-at named y y′ x x′ f ∷ more → Fitted out₀ at (countersSection ∷ []) out′ n m false
+        full more e =
+            begun-full out₀ at countersSection out next (join (countersLeft i rest list-at)) (section-begun out rest list-at next i w) (counter i rest list-at named y y′ x x′ f) (join more) (ap join e) out′ next′ count g n m
+
+        go : (t : Bool) → named ≡ t → Fitted out₀ at (countersSection ∷ []) out′ n m false
+        go true e = full (countersLeft (i + 1) (rest - 1) y′) (named-first i rest list-at named y y′ x x′ f e)
+        go false e = full (countersLeft (i + 1) rest list-at) (kept-first i rest list-at named y y′ x x′ f e)
+
+    -- no counter is left: the section is written
+    pub counters-done : (out : List ℕ) (rest list-at next i : ℕ) → CountersWritten o (at + countLong) rest₀ list-at₀ out rest list-at next i → counterCount ≤ i → Fitted out₀ at (countersSection ∷ []) out next 1 true
+    unfolding countersOver join
+    counters-done out rest list-at next i w h =
+        let z : counterCount - i ≡ 0 = omega arith in
+        let none : countersLeft i rest list-at ≡ [] = rw z in
+        begun-done out₀ at countersSection out next (join (countersLeft i rest list-at)) (section-begun out rest list-at next i w) (ap join none)
