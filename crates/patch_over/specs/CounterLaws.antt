@@ -1,6 +1,6 @@
 -- Laws of bytes that are written piece by piece as far as the output has room, and of the counters of an outcome, written so. Assumes nothing.
 use Prim.Native.Nat.{ℕ, zero, suc, _+_, _-_, _*_, _≤_, _<_}
-use mathlib.Core.Path.{_≡_, refl, sym, ap, _∙_}
+use mathlib.Core.Path.{_≡_, refl, sym, ap, _∙_, subst}
 use mathlib.Core.Bool.{Bool, true, false, cond, _&&_}
 use mathlib.Core.List.{List, [], _∷_, _++_, map-id}
 use native.Mathlib.Omega.{arith}
@@ -41,27 +41,27 @@ module _ (out₀ : List ℕ) (at : ℕ) (all : List ℕ) where
         fitted-yes out₀ at (all ∷ []) out next 1 (omega (arith, ap length whole, w .within, w .long, w .room)) (omega (arith, ap length whole, w .room)) refl
         (sym (ap (put out next) e ∙ put-nil out next) ∙ w .laid ∙ ap (put out₀ at) (sym whole))
 
-    -- what is left begins with the piece x
-    module _ (x more : List ℕ) (e : left ≡ x ++ more) (out′ : List ℕ) (next′ count : ℕ) where
-      -- it is written: what is after it is left
-      pub begun-on : Fitted out next (x ∷ []) out′ next′ count true → Begun out′ next′ more
-      begun-on g =
+    -- what is left begins with the piece x, which is written if it fits
+    module _ (x more : List ℕ) (e : left ≡ x ++ more) (out′ : List ℕ) (next′ count : ℕ) (fits : Bool) (g : Fitted out next (x ∷ []) out′ next′ count fits) where
+      -- it fits: what is after it is left
+      pub begun-on : fits ≡ true → Begun out′ next′ more
+      begun-on t =
           let one = piece-long x in
           let long = ap length one in
-          let fits = fitted-room out next (x ∷ []) g in
-          let place = g .place refl in
+          let has = fitted-room out next (x ∷ []) (subst (λ (b : Bool). Fitted out next (x ∷ []) out′ next′ count b) t g) in
+          let place = g .place t in
           record {
-            within = omega (arith, place, fits, g .long);
+            within = omega (arith, place, has, g .long);
             long = g .long ∙ w .long;
             room = omega (arith, w .room, place, long, ap length e, length-append x more);
-            laid = put-next out out′ (put out′ next′ more) next next′ x more (omega (arith, fits, long)) (g .laid refl ∙ ap (put out next) one) (omega (arith, place, long)) refl ∙ ap (put out next) (sym e) ∙ w .laid;
+            laid = put-next out out′ (put out′ next′ more) next next′ x more (omega (arith, has, long)) (g .laid t ∙ ap (put out next) one) (omega (arith, place, long)) refl ∙ ap (put out next) (sym e) ∙ w .laid;
           }
 
       -- it does not fit: nor does all
-      pub begun-full : Fitted out next (x ∷ []) out′ next′ count false → (n m : ℕ) → Fitted out₀ at (all ∷ []) out′ n m false
-      begun-full g n m =
-          fitted-no out₀ at (all ∷ []) out′ n m
-          (omega (arith, ap length (piece-long all), ap length (piece-long x), w .room, w .long, fitted-over out next (x ∷ []) g, ap length e, length-append x more)) (g .long ∙ w .long)
+      pub begun-full : fits ≡ false → (n m : ℕ) → Fitted out₀ at (all ∷ []) out′ n m false
+      begun-full t n m =
+          let over = fitted-over out next (x ∷ []) (subst (λ (b : Bool). Fitted out next (x ∷ []) out′ next′ count b) t g) in
+          fitted-no out₀ at (all ∷ []) out′ n m (omega (arith, ap length (piece-long all), ap length (piece-long x), w .room, w .long, over, ap length e, length-append x more)) (g .long ∙ w .long)
 
 -- a piece was written right before: with it more is begun
 pub begun-before : (out₀ : List ℕ) (at : ℕ) (x o : List ℕ) (n : ℕ) (all out : List ℕ) (next : ℕ) (left : List ℕ) → at + length x ≤ length out₀ → o ≡ put out₀ at x → n ≡ at + length x → Begun o n all out next left
@@ -141,20 +141,21 @@ module _ (left list : List ℕ) where
         let n : suc i ≡ i + 1 = omega arith in
         rw (k, ← f .says, e, n, counter-lent left i x x′ (f .at-left) (f .up-left) (f .end-left))
 
-    module _ {o : List ℕ} {n₀ rest₀ list-at₀ : ℕ} {out : List ℕ} {next : ℕ} (w : CountersWritten o n₀ rest₀ list-at₀ out rest list-at next i) (out′ : List ℕ) (next′ count : ℕ) where
-      -- what is left, joined, where it begins with this counter
-      counter-begun : (more : List (List ℕ)) → countersLeft i rest list-at ≡ counter ∷ more → Fitted out next (counter ∷ []) out′ next′ count true
-          → Begun o n₀ (join (countersLeft 0 rest₀ list-at₀)) out′ next′ (join more)
+    -- it is written if it fits
+    module _ {o : List ℕ} {n₀ rest₀ list-at₀ : ℕ} {out : List ℕ} {next : ℕ} (w : CountersWritten o n₀ rest₀ list-at₀ out rest list-at next i) (out′ : List ℕ) (next′ count : ℕ) (fits : Bool)
+        (g : Fitted out next (counter ∷ []) out′ next′ count fits) (t : fits ≡ true) where
+      -- it fits: those that are left
+      counter-on : (more : List (List ℕ)) → countersLeft i rest list-at ≡ counter ∷ more → Begun o n₀ (join (countersLeft 0 rest₀ list-at₀)) out′ next′ (join more)
       unfolding join
-      counter-begun more e g = begun-on o n₀ (join (countersLeft 0 rest₀ list-at₀)) out next (join (countersLeft i rest list-at)) (w .begun) counter (join more) (ap join e) out′ next′ count g
+      counter-on more e = begun-on o n₀ (join (countersLeft 0 rest₀ list-at₀)) out next (join (countersLeft i rest list-at)) (w .begun) counter (join more) (ap join e) out′ next′ count fits g t
 
-      -- it is written, of the list: how far the counters are written then
-      pub counter-named : Fitted out next (counter ∷ []) out′ next′ count true → named ≡ true → CountersWritten o n₀ rest₀ list-at₀ out′ (rest - 1) y′ next′ (i + 1)
-      counter-named g e = record { few = omega (arith, f .below); in-list = f .end-list .within; begun = counter-begun (countersLeft (i + 1) (rest - 1) y′) (named-first e) g }
+      -- it is of the list: how far the counters are written then
+      pub counter-named : named ≡ true → CountersWritten o n₀ rest₀ list-at₀ out′ (rest - 1) y′ next′ (i + 1)
+      counter-named e = record { few = omega (arith, f .below); in-list = f .end-list .within; begun = counter-on (countersLeft (i + 1) (rest - 1) y′) (named-first e) }
 
-      -- it is written, of the snapshot
-      pub counter-kept : Fitted out next (counter ∷ []) out′ next′ count true → named ≡ false → CountersWritten o n₀ rest₀ list-at₀ out′ rest list-at next′ (i + 1)
-      counter-kept g e = record { few = omega (arith, f .below); in-list = f .in-list; begun = counter-begun (countersLeft (i + 1) rest list-at) (kept-first e) g }
+      -- it is of the snapshot
+      pub counter-kept : named ≡ false → CountersWritten o n₀ rest₀ list-at₀ out′ rest list-at next′ (i + 1)
+      counter-kept e = record { few = omega (arith, f .below); in-list = f .in-list; begun = counter-on (countersLeft (i + 1) rest list-at) (kept-first e) }
 
   -- the entries follow their count, at place b of the list, and the count of the counters was written before them, at place `at` of the output
   module _ (out₀ : List ℕ) (at b : ℕ) (o : List ℕ) (rest₀ list-at₀ : ℕ) (room : at + countLong ≤ length out₀) (counted : o ≡ put out₀ at (bytes countLong counterCount))
@@ -178,15 +179,15 @@ module _ (left list : List ℕ) where
 
     -- a counter does not fit: nor does the section
     pub counter-full : (i rest list-at : ℕ) (named : Bool) (y y′ x x′ : ℕ) (f : CounterFound i rest list-at named y y′ x x′) (out : List ℕ) (next : ℕ) → CountersWritten o (at + countLong) rest₀ list-at₀ out rest list-at next i
-        → (out′ : List ℕ) (next′ count : ℕ) → Fitted out next (counter i rest list-at named y y′ x x′ f ∷ []) out′ next′ count false → (n m : ℕ) → Fitted out₀ at (countersSection ∷ []) out′ n m false
+        → (out′ : List ℕ) (next′ count : ℕ) (fits : Bool) → Fitted out next (counter i rest list-at named y y′ x x′ f ∷ []) out′ next′ count fits → fits ≡ false → (n m : ℕ) → Fitted out₀ at (countersSection ∷ []) out′ n m false
     unfolding join
-    counter-full i rest list-at named y y′ x x′ f out next w out′ next′ count g n m = go named refl
+    counter-full i rest list-at named y y′ x x′ f out next w out′ next′ count fits g t n m = go named refl
       where
         full : (more : List (List ℕ)) → countersLeft i rest list-at ≡ counter i rest list-at named y y′ x x′ f ∷ more → Fitted out₀ at (countersSection ∷ []) out′ n m false
         full more e =
-            begun-full out₀ at countersSection out next (join (countersLeft i rest list-at)) (section-begun out rest list-at next i w) (counter i rest list-at named y y′ x x′ f) (join more) (ap join e) out′ next′ count g n m
+            begun-full out₀ at countersSection out next (join (countersLeft i rest list-at)) (section-begun out rest list-at next i w) (counter i rest list-at named y y′ x x′ f) (join more) (ap join e) out′ next′ count fits g t n m
 
-        go : (t : Bool) → named ≡ t → Fitted out₀ at (countersSection ∷ []) out′ n m false
+        go : (b : Bool) → named ≡ b → Fitted out₀ at (countersSection ∷ []) out′ n m false
         go true e = full (countersLeft (i + 1) (rest - 1) y′) (named-first i rest list-at named y y′ x x′ f e)
         go false e = full (countersLeft (i + 1) rest list-at) (kept-first i rest list-at named y y′ x x′ f e)
 
