@@ -160,6 +160,13 @@ module _ (left list : List ℕ) where
   -- the entries follow their count, at place b of the list, and the count of the counters was written before them, at place `at` of the output
   module _ (out₀ : List ℕ) (at b : ℕ) (o : List ℕ) (rest₀ list-at₀ : ℕ) (room : at + countLong ≤ length out₀) (counted : o ≡ put out₀ at (bytes countLong counterCount))
       (reads : rest₀ ≡ numberIn countLong (drop b list)) (starts : At list list-at₀ (drop countLong (drop b list))) where
+    -- no counter is written yet
+    pub counters-begin : CountersWritten o (at + countLong) rest₀ list-at₀ o rest₀ list-at₀ (at + countLong) 0
+    counters-begin =
+        let two = bytes-length countLong counterCount in
+        let long = put-keeps out₀ o (bytes countLong counterCount) at (omega arith) counted in
+        record { few = omega arith; in-list = starts .within; begun = begins o (at + countLong) (join (countersLeft 0 rest₀ list-at₀)) (omega arith) }
+
     -- the section of the counters
     abbrev pub countersSection : List ℕ
     countersSection = section asIs (countersOver 0 counterCount left (numberIn countLong (drop b list)) (drop countLong (drop b list)))
