@@ -4,8 +4,10 @@ use mathlib.Core.Path.{_≡_, refl, sym, ap, _∙_, subst}
 use mathlib.Core.Bool.{Bool, true, false, cond, _&&_}
 use mathlib.Core.List.{List, [], _∷_, _++_, map-id}
 use native.Mathlib.Omega.{arith}
+use borrow.Author.Tests.{lt-ltb, le-ltb, ltb-true}
 use lib.Dec.{eqb, ltb}
 use lib.ListN.{length, take, drop, length-append}
+use Rattle.lemmas.specs.Order.{clash}
 use Rattle.lemmas.specs.Lists.{join}
 use Rattle.lemmas.specs.Little.{bytes, bytes-length}
 use Rattle.lemmas.specs.Slices.{put, put-nil}
@@ -96,6 +98,16 @@ counters-many i (suc n) bs m cs =
     go true x xs y ys e f = ap suc e
     go false x xs y ys e f = ap suc f
 
+-- whether the first of some entries is of counter i: `place` is what it names
+module _ (rest place i : ℕ) (cs : List ℕ) (named : Bool) where
+  -- there is one
+  pub named-some : 0 < rest → place ≡ numberIn byteLong cs → named ≡ eqb place i → named ≡ (ltb 0 rest && eqb (numberIn byteLong cs) i)
+  named-some h e f = rw (lt-ltb 0 rest h, ← e) f
+
+  -- there is none
+  pub named-none : rest ≤ 0 → named ≡ ltb 0 rest → named ≡ (ltb 0 rest && eqb (numberIn byteLong cs) i)
+  named-none h f = f ∙ rw (le-ltb 0 rest h)
+
 -- a snapshot and a list
 module _ (left list : List ℕ) where
   -- the counters from place i on, with the entries that are left laid over them
@@ -124,6 +136,14 @@ module _ (left list : List ℕ) where
     -- the bytes that it writes
     abbrev pub counter : List ℕ
     counter = cond named (take (y′ - y) (drop y list)) (take (x′ - x) (drop x left))
+
+    -- if the list has the counter, an entry is left
+    pub some-left : named ≡ true → 0 < rest
+    some-left e = go (ltb 0 rest) refl (sym (f .says) ∙ e)
+      where
+        go : (t : Bool) → ltb 0 rest ≡ t → (t && eqb (numberIn byteLong (drop list-at list)) i) ≡ true → 0 < rest
+        go true g h = ltb-true 0 rest g
+        go false g h = clash h refl
 
     -- the list has the counter: its bytes, then the counters after it with the entries after it
     named-first : named ≡ true → countersLeft i rest list-at ≡ counter ∷ countersLeft (i + 1) (rest - 1) y′

@@ -7,7 +7,7 @@ use borrow.Author.Needs.{needs}
 use borrow.Author.Tests.{not-true, not-false}
 use lib.ListN.{length, drop}
 use Rattle.model.specs.Snapshot.{counterCount}
-use Rattle.patch_over.specs.CounterLaws.{CountersWritten, CounterFound, section-full, counters-begin, counter-named, counter-kept, counter-full, counters-done}
+use Rattle.patch_over.specs.CounterLaws.{CountersWritten, CounterFound, section-full, named-some, named-none, some-left, counters-begin, counter-named, counter-kept, counter-full, counters-done}
 use Rattle.patch_over.proofs.lay_counters.Statement.{statement}
 use Rattle.patch_over.proofs.lay_counters.Tie as tie
 
@@ -27,6 +27,10 @@ returns c =
 
 put-number-requires : tie.Need-put-number-requires Inv-loop μ-loop
 put-number-requires c κs = omega arith
+
+-- the output has room for the count
+room : (c : tie.After-put-number-arg Inv-loop μ-loop) → let a = c .before .before .before .before .before .args in a .at + 2 ≤ length (a .out .now)
+room c = omega arith
 
 get-number-requires : tie.Need-get-number-requires Inv-loop μ-loop
 get-number-requires c κs = search needs
@@ -103,10 +107,13 @@ found c =
     let n = y .before in
     let g = n .before in
     let l = g .before .before in
+    let place = g .get-number2 .result in
+    let entry = drop (l .loop .list-at) (l .before .before .before .before .before .before .before .before .before .before .before .args .list .now) in
+    let named = n .if2 .named in
     record {
       below = below (g .before);
       in-list = l .loop .inv .in-list;
-      says = ⊎-elim (λ w. let u = w in ?) (λ w. let u = w in ?) (n .if2 .came);
+      says = ⊎-elim (λ w. named-some (l .loop .rest) place (l .loop .i) entry named (w .0 .taken) (g .get-number2 .ensures) (w .1)) (λ w. named-none (l .loop .rest) place (l .loop .i) entry named (w .0 .left) (w .1)) (n .if2 .came);
       at-list = y .after2 .ensures .1;
       up-list = z .after3 .ensures .0;
       end-list = z .after3 .ensures .1;
@@ -116,13 +123,29 @@ found c =
     }
 
 returns-2 : tie.Need-returns-2 Inv-loop μ-loop
-returns-2 c = ?
+returns-2 c =
+    let k = c .before .before .before .before in
+    let r = k .before .before .before .before in
+    let z = r .before .before in
+    let l = z .before .before .before .before .before in
+    let g = l .before .before in
+    let p = g .before .before .before in
+    let a = p .before .before .before .before .before .before .args in
+    let t = k .put-counter in
+    counter-full (a .left .now) (a .list .now) (a .out .now) (a .at) (a .b) (p .put-number .last .0) (g .get-number .result) (l .before .after .result) (room (p .before)) (p .put-number .ensures) (g .get-number .ensures) (l .before .after .ensures .1)
+    (l .loop .i) (l .loop .rest) (l .loop .list-at) (z .before .before .if2 .named) (z .before .after2 .result) (z .after3 .result) (r .before .after4 .result) (r .after5 .result) (found r)
+    (l .loop .out) (l .loop .next) (l .loop .inv) (t .last .0) (t .result .next) (t .result .count) (t .result .fits) (t .ensures) (not-true (t .result .fits) (c .if3 .taken)) (l .loop .next) 0
 
 same-length : tie.Need-same-length Inv-loop μ-loop
 same-length c = returns-2 c .long
 
 sub-rest : tie.Need-sub-rest Inv-loop μ-loop
-sub-rest c = ?
+sub-rest c =
+    let r = c .before .before .before .before .before .before .before .before .before in
+    let z = r .before .before in
+    let l = z .before .before .before .before .before in
+    let a = l .before .before .before .before .before .before .before .before .before .before .before .args in
+    some-left (a .left .now) (a .list .now) (l .loop .i) (l .loop .rest) (l .loop .list-at) (z .before .before .if2 .named) (z .before .after2 .result) (z .after3 .result) (r .before .after4 .result) (r .after5 .result) (found r) (c .if4 .taken)
 
 add-i : tie.Need-add-i Inv-loop μ-loop
 add-i c = omega (arith, below (c .before .before .before .before .before .before .before .before .before .before .before .before .before .before .before))
@@ -131,7 +154,22 @@ loop-less : tie.Need-loop-less Inv-loop μ-loop
 loop-less c = omega (arith, below (c .before .before .before .before .before .before .before .before .before .before .before .before .before .before .before))
 
 loop-again : tie.Need-loop-again Inv-loop μ-loop
-loop-again c = ⊎-elim (λ w. let u = w in ?) (λ w. let u = w in ?) (c .if4 .came)
+loop-again c =
+    let k = c .before .before .before .before .before in
+    let r = k .before .before .before .before in
+    let z = r .before .before in
+    let l = z .before .before .before .before .before in
+    let a = l .before .before .before .before .before .before .before .before .before .before .before .args in
+    let t = k .put-counter in
+    let fits = not-false (t .result .fits) (c .before .if3 .left) in
+    ⊎-elim
+    (λ w. rw (w .1, w .2)
+    (counter-named (a .left .now) (a .list .now) (l .loop .i) (l .loop .rest) (l .loop .list-at) (z .before .before .if2 .named) (z .before .after2 .result) (z .after3 .result) (r .before .after4 .result) (r .after5 .result) (found r)
+    (l .loop .inv) (t .last .0) (t .result .next) (t .result .count) (t .result .fits) (t .ensures) fits (w .0 .taken)))
+    (λ w. rw (w .1, w .2)
+    (counter-kept (a .left .now) (a .list .now) (l .loop .i) (l .loop .rest) (l .loop .list-at) (z .before .before .if2 .named) (z .before .after2 .result) (z .after3 .result) (r .before .after4 .result) (r .after5 .result) (found r)
+    (l .loop .inv) (t .last .0) (t .result .next) (t .result .count) (t .result .fits) (t .ensures) fits (w .0 .left)))
+    (c .if4 .came)
 
 returns-3 : tie.Need-returns-3 Inv-loop μ-loop
 returns-3 c =
