@@ -120,7 +120,7 @@ module _ (left list : List ℕ) where
     pub in-list : list-at ≤ length list
     pub begun : Begun o n₀ (join (countersLeft 0 rest₀ list-at₀)) out next (join (countersLeft i rest list-at))
 
-  -- what a turn found: whether the first entry that is left is of counter i, where the counter is in the snapshot, and where its bytes are in the entry
+  -- what a turn found: whether the first entry that is left is of counter i, where its bytes are in the entry, and where the counter is in the snapshot
   pub record CounterFound (i rest list-at : ℕ) (named : Bool) (y y′ x x′ : ℕ) : Type 0 where
     pub below : i < counterCount
     pub in-list : list-at ≤ length list
@@ -132,96 +132,107 @@ module _ (left list : List ℕ) where
     pub up-left : x ≤ x′
     pub end-left : At left x′ (drop numberLong (drop x left))
 
-  module _ (i rest list-at : ℕ) (named : Bool) (y y′ x x′ : ℕ) (f : CounterFound i rest list-at named y y′ x x′) where
-    -- the bytes that it writes
-    abbrev pub counter : List ℕ
-    counter = cond named (take (y′ - y) (drop y list)) (take (x′ - x) (drop x left))
+-- a turn
+module _ {left list : List ℕ} {i rest list-at : ℕ} {named : Bool} {y y′ x x′ : ℕ} (f : CounterFound left list i rest list-at named y y′ x x′) where
+  -- the bytes that it writes
+  abbrev pub counter : List ℕ
+  counter = cond named (take (y′ - y) (drop y list)) (take (x′ - x) (drop x left))
 
-    -- if the list has the counter, an entry is left
-    pub some-left : named ≡ true → 0 < rest
-    some-left e = go (ltb 0 rest) refl (sym (f .says) ∙ e)
-      where
-        go : (t : Bool) → ltb 0 rest ≡ t → (t && eqb (numberIn byteLong (drop list-at list)) i) ≡ true → 0 < rest
-        go true g h = ltb-true 0 rest g
-        go false g h = clash h refl
+  -- if the list has the counter, an entry is left
+  pub some-left : named ≡ true → 0 < rest
+  some-left e = go (ltb 0 rest) refl (sym (f .says) ∙ e)
+    where
+      go : (t : Bool) → ltb 0 rest ≡ t → (t && eqb (numberIn byteLong (drop list-at list)) i) ≡ true → 0 < rest
+      go true g h = ltb-true 0 rest g
+      go false g h = clash h refl
 
-    -- the list has the counter: its bytes, then the counters after it with the entries after it
-    named-first : named ≡ true → countersLeft i rest list-at ≡ counter ∷ countersLeft (i + 1) (rest - 1) y′
-    unfolding countersOver
-    named-first e =
-        let k : counterCount - i ≡ suc (counterCount - (i + 1)) = omega (arith, f .below) in
-        let n : suc i ≡ i + 1 = omega arith in
-        rw (k, ← f .says, e, n, lent-part list y y′ numberLong (f .up-list) (f .end-list), f .end-list .rest, f .at-list .rest)
+  -- the list has the counter: its bytes, then the counters after it with the entries after it
+  named-first : named ≡ true → countersLeft left list i rest list-at ≡ counter ∷ countersLeft left list (i + 1) (rest - 1) y′
+  unfolding countersOver
+  named-first e =
+      let k : counterCount - i ≡ suc (counterCount - (i + 1)) = omega (arith, f .below) in
+      let n : suc i ≡ i + 1 = omega arith in
+      rw (k, ← f .says, e, n, lent-part list y y′ numberLong (f .up-list) (f .end-list), f .end-list .rest, f .at-list .rest)
 
-    -- it does not: the snapshot's bytes, then the counters after it with the same entries
-    kept-first : named ≡ false → countersLeft i rest list-at ≡ counter ∷ countersLeft (i + 1) rest list-at
-    unfolding countersOver
-    kept-first e =
-        let k : counterCount - i ≡ suc (counterCount - (i + 1)) = omega (arith, f .below) in
-        let n : suc i ≡ i + 1 = omega arith in
-        rw (k, ← f .says, e, n, counter-lent left i x x′ (f .at-left) (f .up-left) (f .end-left))
+  -- it does not: the snapshot's bytes, then the counters after it with the same entries
+  kept-first : named ≡ false → countersLeft left list i rest list-at ≡ counter ∷ countersLeft left list (i + 1) rest list-at
+  unfolding countersOver
+  kept-first e =
+      let k : counterCount - i ≡ suc (counterCount - (i + 1)) = omega (arith, f .below) in
+      let n : suc i ≡ i + 1 = omega arith in
+      rw (k, ← f .says, e, n, counter-lent left i x x′ (f .at-left) (f .up-left) (f .end-left))
 
-    -- it is written if it fits
-    module _ {o : List ℕ} {n₀ rest₀ list-at₀ : ℕ} {out : List ℕ} {next : ℕ} (w : CountersWritten o n₀ rest₀ list-at₀ out rest list-at next i) (out′ : List ℕ) (next′ count : ℕ) (fits : Bool)
-        (g : Fitted out next (counter ∷ []) out′ next′ count fits) (t : fits ≡ true) where
-      -- it fits: those that are left
-      counter-on : (more : List (List ℕ)) → countersLeft i rest list-at ≡ counter ∷ more → Begun o n₀ (join (countersLeft 0 rest₀ list-at₀)) out′ next′ (join more)
-      unfolding join
-      counter-on more e = begun-on o n₀ (join (countersLeft 0 rest₀ list-at₀)) out next (join (countersLeft i rest list-at)) (w .begun) counter (join more) (ap join e) out′ next′ count fits g t
+  -- so it is one piece, and counters after it
+  counter-first : (A : Type 0) → ((more : List (List ℕ)) → countersLeft left list i rest list-at ≡ counter ∷ more → A) → A
+  counter-first A k = go named refl
+    where
+      go : (b : Bool) → named ≡ b → A
+      go true e = k (countersLeft left list (i + 1) (rest - 1) y′) (named-first e)
+      go false e = k (countersLeft left list (i + 1) rest list-at) (kept-first e)
 
-      -- it is of the list: how far the counters are written then
-      pub counter-named : named ≡ true → CountersWritten o n₀ rest₀ list-at₀ out′ (rest - 1) y′ next′ (i + 1)
-      counter-named e = record { few = omega (arith, f .below); in-list = f .end-list .within; begun = counter-on (countersLeft (i + 1) (rest - 1) y′) (named-first e) }
+  -- it is written, and it fits
+  module _ {o : List ℕ} {n₀ rest₀ list-at₀ : ℕ} {out : List ℕ} {next : ℕ} (w : CountersWritten left list o n₀ rest₀ list-at₀ out rest list-at next i) {out′ : List ℕ} {next′ count : ℕ} {fits : Bool}
+      (g : Fitted out next (counter ∷ []) out′ next′ count fits) (t : fits ≡ true) where
+    -- the counters that are left then
+    counter-on : (more : List (List ℕ)) → countersLeft left list i rest list-at ≡ counter ∷ more → Begun o n₀ (join (countersLeft left list 0 rest₀ list-at₀)) out′ next′ (join more)
+    unfolding join
+    counter-on more e = begun-on o n₀ (join (countersLeft left list 0 rest₀ list-at₀)) out next (join (countersLeft left list i rest list-at)) (w .begun) counter (join more) (ap join e) out′ next′ count fits g t
 
-      -- it is of the snapshot
-      pub counter-kept : named ≡ false → CountersWritten o n₀ rest₀ list-at₀ out′ rest list-at next′ (i + 1)
-      counter-kept e = record { few = omega (arith, f .below); in-list = f .in-list; begun = counter-on (countersLeft (i + 1) rest list-at) (kept-first e) }
+    -- it is of the list: how far the counters are written then
+    pub counter-named : named ≡ true → CountersWritten left list o n₀ rest₀ list-at₀ out′ (rest - 1) y′ next′ (i + 1)
+    counter-named e = record { few = omega (arith, f .below); in-list = f .end-list .within; begun = counter-on (countersLeft left list (i + 1) (rest - 1) y′) (named-first e) }
 
-  -- the entries follow their count, at place b of the list, and the count of the counters was written before them, at place `at` of the output
-  module _ (out₀ : List ℕ) (at b : ℕ) (o : List ℕ) (rest₀ list-at₀ : ℕ) (room : at + countLong ≤ length out₀) (counted : o ≡ put out₀ at (bytes countLong counterCount))
-      (reads : rest₀ ≡ numberIn countLong (drop b list)) (starts : At list list-at₀ (drop countLong (drop b list))) where
-    -- no counter is written yet
-    pub counters-begin : CountersWritten o (at + countLong) rest₀ list-at₀ o rest₀ list-at₀ (at + countLong) 0
-    counters-begin =
+    -- it is of the snapshot
+    pub counter-kept : named ≡ false → CountersWritten left list o n₀ rest₀ list-at₀ out′ rest list-at next′ (i + 1)
+    counter-kept e = record { few = omega (arith, f .below); in-list = f .in-list; begun = counter-on (countersLeft left list (i + 1) rest list-at) (kept-first e) }
+
+-- before the counters: their count was written at place `at` of the output, which is o then, and the entries follow their own count, at place b of the list
+pub record Counted (list out₀ : List ℕ) (at b : ℕ) (o : List ℕ) (rest₀ list-at₀ : ℕ) : Type 0 where
+  pub room : at + countLong ≤ length out₀
+  pub count : o ≡ put out₀ at (bytes countLong counterCount)
+  pub reads : rest₀ ≡ numberIn countLong (drop b list)
+  pub starts : At list list-at₀ (drop countLong (drop b list))
+
+module _ (left : List ℕ) {list out₀ : List ℕ} {at b : ℕ} {o : List ℕ} {rest₀ list-at₀ : ℕ} (s : Counted list out₀ at b o rest₀ list-at₀) where
+  -- no counter is written yet
+  pub counters-begin : CountersWritten left list o (at + countLong) rest₀ list-at₀ o rest₀ list-at₀ (at + countLong) 0
+  counters-begin =
+      let two = bytes-length countLong counterCount in
+      let long = put-keeps out₀ o (bytes countLong counterCount) at (omega (arith, s .room)) (s .count) in
+      record { few = omega arith; in-list = s .starts .within; begun = begins o (at + countLong) (join (countersLeft left list 0 rest₀ list-at₀)) (omega (arith, s .room)) }
+
+  -- the section of the counters
+  abbrev countersSection : List ℕ
+  countersSection = section asIs (countersOver 0 counterCount left (numberIn countLong (drop b list)) (drop countLong (drop b list)))
+
+  -- it is their count, then the counters
+  section-is : countersSection ≡ bytes countLong counterCount ++ join (countersLeft left list 0 rest₀ list-at₀)
+  section-is =
+      let z : counterCount - 0 ≡ counterCount = omega arith in
+      let m = numberIn countLong (drop b list) in
+      let cs = drop countLong (drop b list) in
+      rw (z, s .reads, s .starts .rest) (section-count (countersOver 0 counterCount left m cs) counterCount (counters-many 0 counterCount left m cs))
+
+  module _ {out : List ℕ} {rest list-at next i : ℕ} (w : CountersWritten left list o (at + countLong) rest₀ list-at₀ out rest list-at next i) where
+    -- so far it is written
+    section-begun : Begun out₀ at countersSection out next (join (countersLeft left list i rest list-at))
+    section-begun =
         let two = bytes-length countLong counterCount in
-        let long = put-keeps out₀ o (bytes countLong counterCount) at (omega arith) counted in
-        record { few = omega arith; in-list = starts .within; begun = begins o (at + countLong) (join (countersLeft 0 rest₀ list-at₀)) (omega arith) }
-
-    -- the section of the counters
-    abbrev pub countersSection : List ℕ
-    countersSection = section asIs (countersOver 0 counterCount left (numberIn countLong (drop b list)) (drop countLong (drop b list)))
-
-    -- it is its count, then the counters that are written
-    section-is : countersSection ≡ bytes countLong counterCount ++ join (countersLeft 0 rest₀ list-at₀)
-    section-is =
-        let z : counterCount - 0 ≡ counterCount = omega arith in
-        rw (z, reads, starts .rest)
-        (section-count (countersOver 0 counterCount left (numberIn countLong (drop b list)) (drop countLong (drop b list))) counterCount (counters-many 0 counterCount left (numberIn countLong (drop b list)) (drop countLong (drop b list))))
-
-    -- so much of it is written
-    section-begun : (out : List ℕ) (rest list-at next i : ℕ) → CountersWritten o (at + countLong) rest₀ list-at₀ out rest list-at next i → Begun out₀ at countersSection out next (join (countersLeft i rest list-at))
-    section-begun out rest list-at next i w =
-        let two = bytes-length countLong counterCount in
-        rw (section-is) (begun-before out₀ at (bytes countLong counterCount) o (at + countLong) (join (countersLeft 0 rest₀ list-at₀)) out next (join (countersLeft i rest list-at)) (omega arith) counted (omega arith) (w .begun))
+        rw section-is
+        (begun-before out₀ at (bytes countLong counterCount) o (at + countLong) (join (countersLeft left list 0 rest₀ list-at₀)) out next (join (countersLeft left list i rest list-at)) (omega (arith, s .room)) (s .count) (omega arith) (w .begun))
 
     -- a counter does not fit: nor does the section
-    pub counter-full : (i rest list-at : ℕ) (named : Bool) (y y′ x x′ : ℕ) (f : CounterFound i rest list-at named y y′ x x′) (out : List ℕ) (next : ℕ) → CountersWritten o (at + countLong) rest₀ list-at₀ out rest list-at next i
-        → (out′ : List ℕ) (next′ count : ℕ) (fits : Bool) → Fitted out next (counter i rest list-at named y y′ x x′ f ∷ []) out′ next′ count fits → fits ≡ false → (n m : ℕ) → Fitted out₀ at (countersSection ∷ []) out′ n m false
+    pub counter-full : {named : Bool} {y y′ x x′ : ℕ} (f : CounterFound left list i rest list-at named y y′ x x′) {out′ : List ℕ} {next′ count : ℕ} {fits : Bool} → Fitted out next (counter f ∷ []) out′ next′ count fits → fits ≡ false
+        → (n m : ℕ) → Fitted out₀ at (countersSection ∷ []) out′ n m false
     unfolding join
-    counter-full i rest list-at named y y′ x x′ f out next w out′ next′ count fits g t n m = go named refl
-      where
-        full : (more : List (List ℕ)) → countersLeft i rest list-at ≡ counter i rest list-at named y y′ x x′ f ∷ more → Fitted out₀ at (countersSection ∷ []) out′ n m false
-        full more e =
-            begun-full out₀ at countersSection out next (join (countersLeft i rest list-at)) (section-begun out rest list-at next i w) (counter i rest list-at named y y′ x x′ f) (join more) (ap join e) out′ next′ count fits g t n m
-
-        go : (b : Bool) → named ≡ b → Fitted out₀ at (countersSection ∷ []) out′ n m false
-        go true e = full (countersLeft (i + 1) (rest - 1) y′) (named-first i rest list-at named y y′ x x′ f e)
-        go false e = full (countersLeft (i + 1) rest list-at) (kept-first i rest list-at named y y′ x x′ f e)
+    counter-full f {out′ = out′} {next′ = next′} {count = count} {fits = fits} g t n m =
+        counter-first f (Fitted out₀ at (countersSection ∷ []) out′ n m false)
+        (λ more e. begun-full out₀ at countersSection out next (join (countersLeft left list i rest list-at)) section-begun (counter f) (join more) (ap join e) out′ next′ count fits g t n m)
 
     -- no counter is left: the section is written
-    pub counters-done : (out : List ℕ) (rest list-at next i : ℕ) → CountersWritten o (at + countLong) rest₀ list-at₀ out rest list-at next i → counterCount ≤ i → Fitted out₀ at (countersSection ∷ []) out next 1 true
+    pub counters-done : counterCount ≤ i → Fitted out₀ at (countersSection ∷ []) out next 1 true
     unfolding countersOver join
-    counters-done out rest list-at next i w h =
+    counters-done h =
         let z : counterCount - i ≡ 0 = omega arith in
-        let none : countersLeft i rest list-at ≡ [] = rw z in
-        begun-done out₀ at countersSection out next (join (countersLeft i rest list-at)) (section-begun out rest list-at next i w) (ap join none)
+        let none : countersLeft left list i rest list-at ≡ [] = rw z in
+        begun-done out₀ at countersSection out next (join (countersLeft left list i rest list-at)) section-begun (ap join none)

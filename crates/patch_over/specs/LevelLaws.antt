@@ -54,44 +54,45 @@ module _ (left list : List ℕ) where
     pub at-left : At left (p .left) (drop countLong (drop left-at left))
     pub at-list : p .right ≡ list-at
 
-  module _ (left-at list-at rest l : ℕ) (p : Places) (f : LevelFound left-at list-at rest l p) where
-    -- the section that it writes
-    abbrev pub levelSection : List ℕ
-    levelSection = section asIs (overRun false (p .lefts) (drop (p .left) left) (p .rights) (drop (p .right) list))
+-- a turn
+module _ {left list : List ℕ} {left-at list-at rest l : ℕ} {p : Places} (f : LevelFound left list left-at list-at rest l p) where
+  -- the section that it writes
+  abbrev pub levelSection : List ℕ
+  levelSection = section asIs (overRun false (p .lefts) (drop (p .left) left) (p .rights) (drop (p .right) list))
 
-    -- the sections of the levels after it
-    abbrev later : List ℕ
-    later = levelsOver (levelCount - (l + 1)) (l + 1) (afterAll false (p .lefts) (drop (p .left) left)) (rest - p .rights) (afterEach false (p .rights) (drop (p .right) list))
+  -- the sections of the levels after it
+  abbrev later : List ℕ
+  later = levelsOver (levelCount - (l + 1)) (l + 1) (afterAll false (p .lefts) (drop (p .left) left)) (rest - p .rights) (afterEach false (p .rights) (drop (p .right) list))
 
-    -- what is left is this section and those
-    levels-first : levelsLeft l left-at rest list-at ≡ levelSection ++ later
-    unfolding levelsOver
-    levels-first =
-        let k : levelCount - l ≡ suc (levelCount - (l + 1)) = omega (arith, f .below) in
-        let n : suc l ≡ l + 1 = omega arith in
-        rw (k, n, f .lefts, f .rights, f .at-left .rest, f .at-list)
-
-    -- it is written if it fits
-    module _ {out₀ : List ℕ} {at a₀ b₀ m₀ : ℕ} {out : List ℕ} {next : ℕ} (w : LevelsWritten out₀ at a₀ b₀ m₀ out left-at list-at rest next l) (out′ : List ℕ) (next′ count : ℕ) (fits : Bool)
-        (g : Fitted out next (levelSection ∷ []) out′ next′ count fits) where
-      -- it fits: how far the levels are written then
-      pub level-on : fits ≡ true → (a b : ℕ) → RunEnds false left list p a b → LevelsWritten out₀ at a₀ b₀ m₀ out′ a b (rest - p .rights) next′ (l + 1)
-      level-on t a b e = record {
-        few = omega (arith, f .below);
-        in-left = e .at-left .within;
-        in-list = e .at-list .within;
-        few-rest = omega (arith, w .few-rest);
-        begun = begun-on out₀ at (levelsLeft 0 a₀ m₀ b₀) out next (levelsLeft l left-at rest list-at) (w .begun) levelSection (levelsLeft (l + 1) a (rest - p .rights) b) (levels-first ∙ rw (e .at-left .rest, e .at-list .rest)) out′ next′ count fits g t;
-      }
-
-      -- it does not fit: nor do all levels
-      pub level-full : fits ≡ false → (n m : ℕ) → Fitted out₀ at (levelsOver levelCount 0 (drop a₀ left) m₀ (drop b₀ list) ∷ []) out′ n m false
-      level-full t n m = begun-full out₀ at (levelsLeft 0 a₀ m₀ b₀) out next (levelsLeft l left-at rest list-at) (w .begun) levelSection later levels-first out′ next′ count fits g t n m
-
-  -- no level is left: all are written
-  pub levels-done : (out₀ : List ℕ) (at a b m : ℕ) (out : List ℕ) (left-at list-at rest next l : ℕ) → LevelsWritten out₀ at a b m out left-at list-at rest next l → levelCount ≤ l
-      → Fitted out₀ at (levelsOver levelCount 0 (drop a left) m (drop b list) ∷ []) out next 1 true
+  -- what is left is this section and those
+  levels-first : levelsLeft left list l left-at rest list-at ≡ levelSection ++ later
   unfolding levelsOver
-  levels-done out₀ at a b m out left-at list-at rest next l w h =
-      let k : levelCount - l ≡ 0 = omega arith in
-      begun-done out₀ at (levelsLeft 0 a m b) out next (levelsLeft l left-at rest list-at) (w .begun) (rw k)
+  levels-first =
+      let k : levelCount - l ≡ suc (levelCount - (l + 1)) = omega (arith, f .below) in
+      let n : suc l ≡ l + 1 = omega arith in
+      rw (k, n, f .lefts, f .rights, f .at-left .rest, f .at-list)
+
+  -- it is written if it fits
+  module _ {out₀ : List ℕ} {at a₀ b₀ m₀ : ℕ} {out : List ℕ} {next : ℕ} (w : LevelsWritten left list out₀ at a₀ b₀ m₀ out left-at list-at rest next l) {out′ : List ℕ} {next′ count : ℕ} {fits : Bool}
+      (g : Fitted out next (levelSection ∷ []) out′ next′ count fits) where
+    -- it fits: how far the levels are written then
+    pub level-on : fits ≡ true → (a b : ℕ) → RunEnds false left list p a b → LevelsWritten left list out₀ at a₀ b₀ m₀ out′ a b (rest - p .rights) next′ (l + 1)
+    level-on t a b e = record {
+      few = omega (arith, f .below);
+      in-left = e .at-left .within;
+      in-list = e .at-list .within;
+      few-rest = omega (arith, w .few-rest);
+      begun = begun-on out₀ at (levelsLeft left list 0 a₀ m₀ b₀) out next (levelsLeft left list l left-at rest list-at) (w .begun) levelSection (levelsLeft left list (l + 1) a (rest - p .rights) b) (levels-first ∙ rw (e .at-left .rest, e .at-list .rest)) out′ next′ count fits g t;
+    }
+
+    -- it does not fit: nor do all levels
+    pub level-full : fits ≡ false → (n m : ℕ) → Fitted out₀ at (levelsOver levelCount 0 (drop a₀ left) m₀ (drop b₀ list) ∷ []) out′ n m false
+    level-full t n m = begun-full out₀ at (levelsLeft left list 0 a₀ m₀ b₀) out next (levelsLeft left list l left-at rest list-at) (w .begun) levelSection later levels-first out′ next′ count fits g t n m
+
+-- no level is left: all are written
+pub levels-done : {left list out₀ : List ℕ} {at a b m : ℕ} {out : List ℕ} {left-at list-at rest next l : ℕ} → LevelsWritten left list out₀ at a b m out left-at list-at rest next l → levelCount ≤ l
+    → Fitted out₀ at (levelsOver levelCount 0 (drop a left) m (drop b list) ∷ []) out next 1 true
+unfolding levelsOver
+levels-done {left = left} {list = list} {out₀ = out₀} {at = at} {a = a} {b = b} {m = m} {out = out} {left-at = left-at} {list-at = list-at} {rest = rest} {next = next} {l = l} w h =
+    let k : levelCount - l ≡ 0 = omega arith in
+    begun-done out₀ at (levelsLeft left list 0 a m b) out next (levelsLeft left list l left-at rest list-at) (w .begun) (rw k)

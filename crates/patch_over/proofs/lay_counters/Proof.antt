@@ -7,7 +7,7 @@ use borrow.Author.Needs.{needs}
 use borrow.Author.Tests.{not-true, not-false}
 use lib.ListN.{length, drop}
 use Rattle.model.specs.Snapshot.{counterCount}
-use Rattle.patch_over.specs.CounterLaws.{CountersWritten, CounterFound, section-full, named-some, named-none, some-left, counters-begin, counter-named, counter-kept, counter-full, counters-done}
+use Rattle.patch_over.specs.CounterLaws.{CountersWritten, CounterFound, Counted, section-full, named-some, named-none, some-left, counters-begin, counter-named, counter-kept, counter-full, counters-done}
 use Rattle.patch_over.proofs.lay_counters.Statement.{statement}
 use Rattle.patch_over.proofs.lay_counters.Tie as tie
 
@@ -28,10 +28,6 @@ returns c =
 put-number-requires : tie.Need-put-number-requires Inv-loop μ-loop
 put-number-requires c κs = omega arith
 
--- the output has room for the count
-room : (c : tie.After-put-number-arg Inv-loop μ-loop) → let a = c .before .before .before .before .before .args in a .at + 2 ≤ length (a .out .now)
-room c = omega arith
-
 get-number-requires : tie.Need-get-number-requires Inv-loop μ-loop
 get-number-requires c κs = search needs
 
@@ -41,11 +37,15 @@ after-requires c κs = search needs
 add-next : tie.Need-add-next Inv-loop μ-loop
 add-next c = search needs
 
-loop-holds : tie.Need-loop-holds Inv-loop μ-loop
-loop-holds c =
+-- the counters are about to be written
+counted : (c : tie.After-after Inv-loop μ-loop) → let p = c .before .before .before .before in let a = p .before .before .before .before .before .before .args in
+    Counted (a .list .now) (a .out .now) (a .at) (a .b) (p .put-number .last .0) (c .before .get-number .result) (c .after .result)
+counted c =
     let p = c .before .before .before .before in
-    let a = p .before .before .before .before .before .before .args in
-    counters-begin (a .left .now) (a .list .now) (a .out .now) (a .at) (a .b) (p .put-number .last .0) (c .before .get-number .result) (c .after .result) (omega arith) (p .put-number .ensures) (c .before .get-number .ensures) (c .after .ensures .1)
+    record { room = omega arith; count = p .put-number .ensures; reads = c .before .get-number .ensures; starts = c .after .ensures .1 }
+
+loop-holds : tie.Need-loop-holds Inv-loop μ-loop
+loop-holds c = counters-begin (c .before .before .before .before .before .before .before .before .before .before .args .left .now) (counted c)
 
 get-number-requires-2 : tie.Need-get-number-requires-2 Inv-loop μ-loop
 get-number-requires-2 c κs = (c .before .loop .inv .in-list, omega arith)
@@ -126,26 +126,15 @@ returns-2 : tie.Need-returns-2 Inv-loop μ-loop
 returns-2 c =
     let k = c .before .before .before .before in
     let r = k .before .before .before .before in
-    let z = r .before .before in
-    let l = z .before .before .before .before .before in
-    let g = l .before .before in
-    let p = g .before .before .before in
-    let a = p .before .before .before .before .before .before .args in
+    let l = r .before .before .before .before .before .before .before in
     let t = k .put-counter in
-    counter-full (a .left .now) (a .list .now) (a .out .now) (a .at) (a .b) (p .put-number .last .0) (g .get-number .result) (l .before .after .result) (room (p .before)) (p .put-number .ensures) (g .get-number .ensures) (l .before .after .ensures .1)
-    (l .loop .i) (l .loop .rest) (l .loop .list-at) (z .before .before .if2 .named) (z .before .after2 .result) (z .after3 .result) (r .before .after4 .result) (r .after5 .result) (found r)
-    (l .loop .out) (l .loop .next) (l .loop .inv) (t .last .0) (t .result .next) (t .result .count) (t .result .fits) (t .ensures) (not-true (t .result .fits) (c .if3 .taken)) (l .loop .next) 0
+    counter-full (l .before .before .before .before .before .before .before .before .before .before .before .args .left .now) (counted (l .before)) (l .loop .inv) (found r) (t .ensures) (not-true (t .result .fits) (c .if3 .taken)) (l .loop .next) 0
 
 same-length : tie.Need-same-length Inv-loop μ-loop
 same-length c = returns-2 c .long
 
 sub-rest : tie.Need-sub-rest Inv-loop μ-loop
-sub-rest c =
-    let r = c .before .before .before .before .before .before .before .before .before in
-    let z = r .before .before in
-    let l = z .before .before .before .before .before in
-    let a = l .before .before .before .before .before .before .before .before .before .before .before .args in
-    some-left (a .left .now) (a .list .now) (l .loop .i) (l .loop .rest) (l .loop .list-at) (z .before .before .if2 .named) (z .before .after2 .result) (z .after3 .result) (r .before .after4 .result) (r .after5 .result) (found r) (c .if4 .taken)
+sub-rest c = some-left (found (c .before .before .before .before .before .before .before .before .before)) (c .if4 .taken)
 
 add-i : tie.Need-add-i Inv-loop μ-loop
 add-i c = omega (arith, below (c .before .before .before .before .before .before .before .before .before .before .before .before .before .before .before))
@@ -157,28 +146,15 @@ loop-again : tie.Need-loop-again Inv-loop μ-loop
 loop-again c =
     let k = c .before .before .before .before .before in
     let r = k .before .before .before .before in
-    let z = r .before .before in
-    let l = z .before .before .before .before .before in
-    let a = l .before .before .before .before .before .before .before .before .before .before .before .args in
+    let l = r .before .before .before .before .before .before .before in
     let t = k .put-counter in
     let fits = not-false (t .result .fits) (c .before .if3 .left) in
-    ⊎-elim
-    (λ w. rw (w .1, w .2)
-    (counter-named (a .left .now) (a .list .now) (l .loop .i) (l .loop .rest) (l .loop .list-at) (z .before .before .if2 .named) (z .before .after2 .result) (z .after3 .result) (r .before .after4 .result) (r .after5 .result) (found r)
-    (l .loop .inv) (t .last .0) (t .result .next) (t .result .count) (t .result .fits) (t .ensures) fits (w .0 .taken)))
-    (λ w. rw (w .1, w .2)
-    (counter-kept (a .left .now) (a .list .now) (l .loop .i) (l .loop .rest) (l .loop .list-at) (z .before .before .if2 .named) (z .before .after2 .result) (z .after3 .result) (r .before .after4 .result) (r .after5 .result) (found r)
-    (l .loop .inv) (t .last .0) (t .result .next) (t .result .count) (t .result .fits) (t .ensures) fits (w .0 .left)))
-    (c .if4 .came)
+    ⊎-elim (λ w. rw (w .1, w .2) (counter-named (found r) (l .loop .inv) (t .ensures) fits (w .0 .taken))) (λ w. rw (w .1, w .2) (counter-kept (found r) (l .loop .inv) (t .ensures) fits (w .0 .left))) (c .if4 .came)
 
 returns-3 : tie.Need-returns-3 Inv-loop μ-loop
 returns-3 c =
     let l = c .before in
-    let g = l .before .before in
-    let p = g .before .before .before in
-    let a = p .before .before .before .before .before .before .args in
-    counters-done (a .left .now) (a .list .now) (a .out .now) (a .at) (a .b) (p .put-number .last .0) (g .get-number .result) (l .before .after .result) (omega arith) (p .put-number .ensures) (g .get-number .ensures) (l .before .after .ensures .1)
-    (l .loop .out) (l .loop .rest) (l .loop .list-at) (l .loop .next) (l .loop .i) (l .loop .inv) (omega arith)
+    counters-done (l .before .before .before .before .before .before .before .before .before .before .before .args .left .now) (counted (l .before)) (l .loop .inv) (omega arith)
 
 same-length-2 : tie.Need-same-length-2 Inv-loop μ-loop
 same-length-2 c = returns-3 c .long

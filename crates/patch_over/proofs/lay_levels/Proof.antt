@@ -75,10 +75,8 @@ returns c =
     let m = c .before .before .before .before in
     let r = m .before .before in
     let l = r .before .before .before .before in
-    let a = l .before .before .before .before .args in
     let s = m .lay-section in
-    level-full (a .left .now) (a .list .now) (l .loop .left-at) (l .loop .list-at) (l .loop .rest) (l .loop .level) (runs r) (found r) (l .loop .inv) (s .last .1 .1 .1 .1 .0) (s .result .next) (s .result .count) (s .result .fits) (s .ensures .0)
-    (not-true (s .result .fits) (c .if1 .taken)) (l .loop .next) 0
+    level-full (found r) (l .loop .inv) (s .ensures .0) (not-true (s .result .fits) (c .if1 .taken)) (l .loop .next) 0
 
 sub-rest : tie.Need-sub-rest Inv-loop μ-loop
 sub-rest c = few (c .before .before .before .before .before .before)
@@ -97,21 +95,15 @@ loop-again : tie.Need-loop-again Inv-loop μ-loop
 loop-again c =
     let m = c .before .before .before .before in
     let r = m .before .before in
-    let l = r .before .before .before .before in
-    let a = l .before .before .before .before .args in
     let s = m .lay-section in
     let fits = not-false (s .result .fits) (c .if1 .left) in
-    level-on (a .left .now) (a .list .now) (l .loop .left-at) (l .loop .list-at) (l .loop .rest) (l .loop .level) (runs r) (found r) (l .loop .inv) (s .last .1 .1 .1 .1 .0) (s .result .next) (s .result .count) (s .result .fits) (s .ensures .0)
-    fits (s .result .left) (s .result .list) (s .ensures .1 fits)
+    level-on (found r) (r .before .before .before .before .loop .inv) (s .ensures .0) fits (s .result .left) (s .result .list) (s .ensures .1 fits)
 
 same-length-2 : tie.Need-same-length-2 Inv-loop μ-loop
 same-length-2 c = c .before .loop .inv .begun .long
 
 returns-2 : tie.Need-returns-2 Inv-loop μ-loop
-returns-2 c =
-    let l = c .before in
-    let a = l .before .before .before .before .args in
-    levels-done (a .left .now) (a .list .now) (a .out .now) (a .at) (a .a) (a .b) (a .m) (l .loop .out) (l .loop .left-at) (l .loop .list-at) (l .loop .rest) (l .loop .next) (l .loop .level) (l .loop .inv) (omega arith)
+returns-2 c = levels-done (c .before .loop .inv) (omega arith)
 
 pub lay-levels-spec : {M : Type 1} → statement M
 lay-levels-spec =
