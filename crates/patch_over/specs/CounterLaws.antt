@@ -22,58 +22,56 @@ use Rattle.patch_scan.specs.Over.{Fitted}
 use Rattle.patch_scan.specs.FittedLaws.{piece-long, fitted-yes, fitted-no, fitted-room, fitted-over}
 
 -- ---- bytes written piece by piece
-module _ (out₀ : List ℕ) (at : ℕ) (all : List ℕ) where
-  -- how far bytes are written: with what is left they are all, begun at place `at` of the output
-  pub record Begun (out : List ℕ) (next : ℕ) (left : List ℕ) : Type 0 where
-    pub within : next ≤ length out
-    pub long : length out ≡ length out₀
-    pub room : next + length left ≡ at + length all
-    pub laid : put out next left ≡ put out₀ at all
+-- how far bytes are written: with what is left they are all, begun at place `at` of the output
+pub record Begun (out₀ : List ℕ) (at : ℕ) (all out : List ℕ) (next : ℕ) (left : List ℕ) : Type 0 where
+  pub within : next ≤ length out
+  pub long : length out ≡ length out₀
+  pub room : next + length left ≡ at + length all
+  pub laid : put out next left ≡ put out₀ at all
 
-  -- nothing is written yet
-  pub begins : at ≤ length out₀ → Begun out₀ at all
-  begins h = record { within = h; long = refl; room = refl; laid = refl }
+-- nothing is written yet
+pub begins : (out : List ℕ) (at : ℕ) (all : List ℕ) → at ≤ length out → Begun out at all out at all
+begins out at all h = record { within = h; long = refl; room = refl; laid = refl }
 
-  module _ (out : List ℕ) (next : ℕ) (left : List ℕ) (w : Begun out next left) where
-    -- nothing is left: all is written, and it is one piece
-    pub begun-done : left ≡ [] → Fitted out₀ at (all ∷ []) out next 1 true
-    begun-done e =
-        let whole = piece-long all in
-        let none : length left ≡ 0 = ap length e in
-        fitted-yes out₀ at (all ∷ []) out next 1 (omega (arith, ap length whole, w .within, w .long, w .room)) (omega (arith, ap length whole, w .room)) refl
-        (sym (ap (put out next) e ∙ put-nil out next) ∙ w .laid ∙ ap (put out₀ at) (sym whole))
+module _ {out₀ : List ℕ} {at : ℕ} {all out : List ℕ} {next : ℕ} {left : List ℕ} (w : Begun out₀ at all out next left) where
+  -- nothing is left: all is written, and it is one piece
+  pub begun-done : left ≡ [] → Fitted out₀ at (all ∷ []) out next 1 true
+  begun-done e =
+      let whole = piece-long all in
+      let none : length left ≡ 0 = ap length e in
+      fitted-yes out₀ at (all ∷ []) out next 1 (omega (arith, ap length whole, w .within, w .long, w .room)) (omega (arith, ap length whole, w .room)) refl
+      (sym (ap (put out next) e ∙ put-nil out next) ∙ w .laid ∙ ap (put out₀ at) (sym whole))
 
-    -- what is left begins with the piece x, which is written if it fits
-    module _ (x more : List ℕ) (e : left ≡ x ++ more) (out′ : List ℕ) (next′ count : ℕ) (fits : Bool) (g : Fitted out next (x ∷ []) out′ next′ count fits) where
-      -- it fits: what is after it is left
-      pub begun-on : fits ≡ true → Begun out′ next′ more
-      begun-on t =
-          let one = piece-long x in
-          let long = ap length one in
-          let has = fitted-room out next (x ∷ []) (subst (λ (b : Bool). Fitted out next (x ∷ []) out′ next′ count b) t g) in
-          let place = g .place t in
-          record {
-            within = omega (arith, place, has, g .long);
-            long = g .long ∙ w .long;
-            room = omega (arith, w .room, place, long, ap length e, length-append x more);
-            laid = put-next out out′ (put out′ next′ more) next next′ x more (omega (arith, has, long)) (g .laid t ∙ ap (put out next) one) (omega (arith, place, long)) refl ∙ ap (put out next) (sym e) ∙ w .laid;
-          }
+  -- what is left begins with the piece x, which is written if it fits
+  module _ (x more : List ℕ) (e : left ≡ x ++ more) {out′ : List ℕ} {next′ count : ℕ} {fits : Bool} (g : Fitted out next (x ∷ []) out′ next′ count fits) where
+    -- it fits: what is after it is left
+    pub begun-on : fits ≡ true → Begun out₀ at all out′ next′ more
+    begun-on t =
+        let one = piece-long x in
+        let long = ap length one in
+        let has = fitted-room out next (x ∷ []) (subst (λ (b : Bool). Fitted out next (x ∷ []) out′ next′ count b) t g) in
+        let place = g .place t in
+        record {
+          within = omega (arith, place, has, g .long);
+          long = g .long ∙ w .long;
+          room = omega (arith, w .room, place, long, ap length e, length-append x more);
+          laid = put-next out out′ (put out′ next′ more) next next′ x more (omega (arith, has, long)) (g .laid t ∙ ap (put out next) one) (omega (arith, place, long)) refl ∙ ap (put out next) (sym e) ∙ w .laid;
+        }
 
-      -- it does not fit: nor does all
-      pub begun-full : fits ≡ false → (n m : ℕ) → Fitted out₀ at (all ∷ []) out′ n m false
-      begun-full t n m =
-          let over = fitted-over out next (x ∷ []) (subst (λ (b : Bool). Fitted out next (x ∷ []) out′ next′ count b) t g) in
-          fitted-no out₀ at (all ∷ []) out′ n m (omega (arith, ap length (piece-long all), ap length (piece-long x), w .room, w .long, over, ap length e, length-append x more)) (g .long ∙ w .long)
+    -- it does not fit: nor does all
+    pub begun-full : fits ≡ false → (n m : ℕ) → Fitted out₀ at (all ∷ []) out′ n m false
+    begun-full t n m =
+        let over = fitted-over out next (x ∷ []) (subst (λ (b : Bool). Fitted out next (x ∷ []) out′ next′ count b) t g) in
+        fitted-no out₀ at (all ∷ []) out′ n m (omega (arith, ap length (piece-long all), ap length (piece-long x), w .room, w .long, over, ap length e, length-append x more)) (g .long ∙ w .long)
 
--- a piece was written right before: with it more is begun
-pub begun-before : (out₀ : List ℕ) (at : ℕ) (x o : List ℕ) (n : ℕ) (all out : List ℕ) (next : ℕ) (left : List ℕ) → at + length x ≤ length out₀ → o ≡ put out₀ at x → n ≡ at + length x → Begun o n all out next left
-    → Begun out₀ at (x ++ all) out next left
-begun-before out₀ at x o n all out next left h e f w = record {
-  within = w .within;
-  long = w .long ∙ put-keeps out₀ o x at h e;
-  room = omega (arith, w .room, f, length-append x all);
-  laid = w .laid ∙ put-next out₀ o (put o n all) at n x all h e f refl;
-}
+  -- the piece x was written right before: with it more is begun
+  begun-before : (d : List ℕ) (n : ℕ) (x : List ℕ) → n + length x ≤ length d → out₀ ≡ put d n x → at ≡ n + length x → Begun d n (x ++ all) out next left
+  begun-before d n x h e f = record {
+    within = w .within;
+    long = w .long ∙ put-keeps d out₀ x n h e;
+    room = omega (arith, w .room, length-append x all);
+    laid = w .laid ∙ put-next d out₀ (put out₀ at all) n at x all h e f refl;
+  }
 
 -- ---- a section
 -- its count, then its entries
@@ -116,7 +114,6 @@ module _ (left list : List ℕ) where
 
   -- how far the counters are written: with those that are left they are all, begun at place n₀ of the output
   pub record CountersWritten (o : List ℕ) (n₀ rest₀ list-at₀ : ℕ) (out : List ℕ) (rest list-at next i : ℕ) : Type 0 where
-    pub few : i ≤ counterCount
     pub in-list : list-at ≤ length list
     pub begun : Begun o n₀ (join (countersLeft 0 rest₀ list-at₀)) out next (join (countersLeft i rest list-at))
 
@@ -162,7 +159,7 @@ module _ {left list : List ℕ} {i rest list-at : ℕ} {named : Bool} {y y′ x 
       let n : suc i ≡ i + 1 = omega arith in
       rw (k, ← f .says, e, n, counter-lent left i x x′ (f .at-left) (f .up-left) (f .end-left))
 
-  -- so it is one piece, and counters after it
+  -- either way it is one piece, then counters: what follows from that holds
   counter-first : (A : Type 0) → ((more : List (List ℕ)) → countersLeft left list i rest list-at ≡ counter ∷ more → A) → A
   counter-first A k = go named refl
     where
@@ -176,15 +173,15 @@ module _ {left list : List ℕ} {i rest list-at : ℕ} {named : Bool} {y y′ x 
     -- the counters that are left then
     counter-on : (more : List (List ℕ)) → countersLeft left list i rest list-at ≡ counter ∷ more → Begun o n₀ (join (countersLeft left list 0 rest₀ list-at₀)) out′ next′ (join more)
     unfolding join
-    counter-on more e = begun-on o n₀ (join (countersLeft left list 0 rest₀ list-at₀)) out next (join (countersLeft left list i rest list-at)) (w .begun) counter (join more) (ap join e) out′ next′ count fits g t
+    counter-on more e = begun-on (w .begun) counter (join more) (ap join e) g t
 
     -- it is of the list: how far the counters are written then
     pub counter-named : named ≡ true → CountersWritten left list o n₀ rest₀ list-at₀ out′ (rest - 1) y′ next′ (i + 1)
-    counter-named e = record { few = omega (arith, f .below); in-list = f .end-list .within; begun = counter-on (countersLeft left list (i + 1) (rest - 1) y′) (named-first e) }
+    counter-named e = record { in-list = f .end-list .within; begun = counter-on (countersLeft left list (i + 1) (rest - 1) y′) (named-first e) }
 
     -- it is of the snapshot
     pub counter-kept : named ≡ false → CountersWritten left list o n₀ rest₀ list-at₀ out′ rest list-at next′ (i + 1)
-    counter-kept e = record { few = omega (arith, f .below); in-list = f .in-list; begun = counter-on (countersLeft left list (i + 1) rest list-at) (kept-first e) }
+    counter-kept e = record { in-list = f .in-list; begun = counter-on (countersLeft left list (i + 1) rest list-at) (kept-first e) }
 
 -- before the counters: their count was written at place `at` of the output, which is o then, and the entries follow their own count, at place b of the list
 pub record Counted (list out₀ : List ℕ) (at b : ℕ) (o : List ℕ) (rest₀ list-at₀ : ℕ) : Type 0 where
@@ -199,7 +196,7 @@ module _ (left : List ℕ) {list out₀ : List ℕ} {at b : ℕ} {o : List ℕ} 
   counters-begin =
       let two = bytes-length countLong counterCount in
       let long = put-keeps out₀ o (bytes countLong counterCount) at (omega (arith, s .room)) (s .count) in
-      record { few = omega arith; in-list = s .starts .within; begun = begins o (at + countLong) (join (countersLeft left list 0 rest₀ list-at₀)) (omega (arith, s .room)) }
+      record { in-list = s .starts .within; begun = begins o (at + countLong) (join (countersLeft left list 0 rest₀ list-at₀)) (omega (arith, s .room)) }
 
   -- the section of the counters
   abbrev countersSection : List ℕ
@@ -214,20 +211,17 @@ module _ (left : List ℕ) {list out₀ : List ℕ} {at b : ℕ} {o : List ℕ} 
       rw (z, s .reads, s .starts .rest) (section-count (countersOver 0 counterCount left m cs) counterCount (counters-many 0 counterCount left m cs))
 
   module _ {out : List ℕ} {rest list-at next i : ℕ} (w : CountersWritten left list o (at + countLong) rest₀ list-at₀ out rest list-at next i) where
-    -- so far it is written
+    -- so far the section is written
     section-begun : Begun out₀ at countersSection out next (join (countersLeft left list i rest list-at))
     section-begun =
         let two = bytes-length countLong counterCount in
-        rw section-is
-        (begun-before out₀ at (bytes countLong counterCount) o (at + countLong) (join (countersLeft left list 0 rest₀ list-at₀)) out next (join (countersLeft left list i rest list-at)) (omega (arith, s .room)) (s .count) (omega arith) (w .begun))
+        rw section-is (begun-before (w .begun) out₀ at (bytes countLong counterCount) (omega (arith, s .room)) (s .count) (omega arith))
 
     -- a counter does not fit: nor does the section
     pub counter-full : {named : Bool} {y y′ x x′ : ℕ} (f : CounterFound left list i rest list-at named y y′ x x′) {out′ : List ℕ} {next′ count : ℕ} {fits : Bool} → Fitted out next (counter f ∷ []) out′ next′ count fits → fits ≡ false
         → (n m : ℕ) → Fitted out₀ at (countersSection ∷ []) out′ n m false
     unfolding join
-    counter-full f {out′ = out′} {next′ = next′} {count = count} {fits = fits} g t n m =
-        counter-first f (Fitted out₀ at (countersSection ∷ []) out′ n m false)
-        (λ more e. begun-full out₀ at countersSection out next (join (countersLeft left list i rest list-at)) section-begun (counter f) (join more) (ap join e) out′ next′ count fits g t n m)
+    counter-full f {out′ = out′} g t n m = counter-first f (Fitted out₀ at (countersSection ∷ []) out′ n m false) (λ more e. begun-full section-begun (counter f) (join more) (ap join e) g t n m)
 
     -- no counter is left: the section is written
     pub counters-done : counterCount ≤ i → Fitted out₀ at (countersSection ∷ []) out next 1 true
@@ -235,4 +229,4 @@ module _ (left : List ℕ) {list out₀ : List ℕ} {at b : ℕ} {o : List ℕ} 
     counters-done h =
         let z : counterCount - i ≡ 0 = omega arith in
         let none : countersLeft left list i rest list-at ≡ [] = rw z in
-        begun-done out₀ at countersSection out next (join (countersLeft left list i rest list-at)) section-begun (ap join none)
+        begun-done section-begun (ap join none)

@@ -1,6 +1,6 @@
 -- Laws of the levels of an outcome, written section by section as far as the output has room. Assumes nothing.
 use Prim.Native.Nat.{ℕ, zero, suc, _+_, _-_, _≤_, _<_}
-use mathlib.Core.Path.{_≡_, sym, ap, _∙_}
+use mathlib.Core.Path.{_≡_, _∙_}
 use mathlib.Core.Bool.{Bool, true, false, cond}
 use mathlib.Core.List.{List, [], _∷_, _++_}
 use native.Mathlib.Omega.{arith}
@@ -36,7 +36,6 @@ module _ (left list : List ℕ) where
 
   -- how far the levels are written: with those that are left they are all, begun at place `at` of the output
   pub record LevelsWritten (out₀ : List ℕ) (at a b m : ℕ) (out : List ℕ) (left-at list-at rest next l : ℕ) : Type 0 where
-    pub few : l ≤ levelCount
     pub in-left : left-at ≤ length left
     pub in-list : list-at ≤ length list
     pub few-rest : rest < 65536
@@ -44,7 +43,7 @@ module _ (left list : List ℕ) where
 
   -- no level is written yet
   pub levels-begin : (out₀ : List ℕ) (at a b m : ℕ) → a ≤ length left → b ≤ length list → m < 65536 → at ≤ length out₀ → LevelsWritten out₀ at a b m out₀ a b m at 0
-  levels-begin out₀ at a b m ha hb hm h = record { few = omega arith; in-left = ha; in-list = hb; few-rest = hm; begun = begins out₀ at (levelsLeft 0 a m b) h }
+  levels-begin out₀ at a b m ha hb hm h = record { in-left = ha; in-list = hb; few-rest = hm; begun = begins out₀ at (levelsLeft 0 a m b) h }
 
   -- what a turn found: the count of the level and of its entries, and where both begin
   pub record LevelFound (left-at list-at rest l : ℕ) (p : Places) : Type 0 where
@@ -78,21 +77,18 @@ module _ {left list : List ℕ} {left-at list-at rest l : ℕ} {p : Places} (f :
     -- it fits: how far the levels are written then
     pub level-on : fits ≡ true → (a b : ℕ) → RunEnds false left list p a b → LevelsWritten left list out₀ at a₀ b₀ m₀ out′ a b (rest - p .rights) next′ (l + 1)
     level-on t a b e = record {
-      few = omega (arith, f .below);
       in-left = e .at-left .within;
       in-list = e .at-list .within;
       few-rest = omega (arith, w .few-rest);
-      begun = begun-on out₀ at (levelsLeft left list 0 a₀ m₀ b₀) out next (levelsLeft left list l left-at rest list-at) (w .begun) levelSection (levelsLeft left list (l + 1) a (rest - p .rights) b) (levels-first ∙ rw (e .at-left .rest, e .at-list .rest)) out′ next′ count fits g t;
+      begun = begun-on (w .begun) levelSection (levelsLeft left list (l + 1) a (rest - p .rights) b) (levels-first ∙ rw (e .at-left .rest, e .at-list .rest)) g t;
     }
 
     -- it does not fit: nor do all levels
     pub level-full : fits ≡ false → (n m : ℕ) → Fitted out₀ at (levelsOver levelCount 0 (drop a₀ left) m₀ (drop b₀ list) ∷ []) out′ n m false
-    level-full t n m = begun-full out₀ at (levelsLeft left list 0 a₀ m₀ b₀) out next (levelsLeft left list l left-at rest list-at) (w .begun) levelSection later levels-first out′ next′ count fits g t n m
+    level-full t n m = begun-full (w .begun) levelSection later levels-first g t n m
 
 -- no level is left: all are written
 pub levels-done : {left list out₀ : List ℕ} {at a b m : ℕ} {out : List ℕ} {left-at list-at rest next l : ℕ} → LevelsWritten left list out₀ at a b m out left-at list-at rest next l → levelCount ≤ l
     → Fitted out₀ at (levelsOver levelCount 0 (drop a left) m (drop b list) ∷ []) out next 1 true
 unfolding levelsOver
-levels-done {left = left} {list = list} {out₀ = out₀} {at = at} {a = a} {b = b} {m = m} {out = out} {left-at = left-at} {list-at = list-at} {rest = rest} {next = next} {l = l} w h =
-    let k : levelCount - l ≡ 0 = omega arith in
-    begun-done out₀ at (levelsLeft left list 0 a m b) out next (levelsLeft left list l left-at rest list-at) (w .begun) (rw k)
+levels-done {l = l} w h = let k : levelCount - l ≡ 0 = omega arith in begun-done (w .begun) (rw k)

@@ -1,11 +1,10 @@
 -- `lay_counters` meets its contract. The loop's invariant: what is written, with the counters that are left, is all. Assumes nothing.
-use Prim.Native.Nat.{_+_, _-_, _≤_, _<_}
-use mathlib.Core.Path.{_≡_, refl, sym, _∙_}
+use Prim.Native.Nat.{_-_, _<_}
 use mathlib.Core.Logic.{⊎-elim}
 use native.Mathlib.Omega.{arith}
 use borrow.Author.Needs.{needs}
 use borrow.Author.Tests.{not-true, not-false}
-use lib.ListN.{length, drop}
+use lib.ListN.{drop}
 use Rattle.model.specs.Snapshot.{counterCount}
 use Rattle.patch_over.specs.CounterLaws.{CountersWritten, CounterFound, Counted, section-full, named-some, named-none, some-left, counters-begin, counter-named, counter-kept, counter-full, counters-done}
 use Rattle.patch_over.proofs.lay_counters.Statement.{statement}
