@@ -2,15 +2,16 @@
 use Prim.Native.Nat.{ℕ, _+_, _-_, _≤_, _<_, min}
 use mathlib.Core.Path.{_≡_, refl, sym, ap, _∙_, subst}
 use mathlib.Core.Bool.{Bool, true, false}
-use mathlib.Core.List.{List, [], _∷_}
+use mathlib.Core.List.{List, [], _∷_, _++_}
 use native.Mathlib.Omega.{arith}
 use native.Mathlib.Decide.{decLt}
 use borrow.Author.Tests.{eq-eqb, ne-eqb}
 use lib.Dec.{eqb}
-use lib.ListN.{length, take, drop, length-drop, drop-of-length-le}
+use lib.ListN.{length, take, drop, length-append, length-drop, drop-of-length-le}
 use lib.Seq.{take-all, drop-length}
 use Rattle.lemmas.specs.Lists.{join}
 use Rattle.lemmas.specs.Little.{bytes}
+use Rattle.lemmas.specs.Laying.{put-next}
 use Rattle.lemmas.specs.Slices.{put, put-nil}
 use Rattle.model.specs.Snapshot.{section, countLong, countersLong}
 use Rattle.model.specs.DifferenceBytes.{leftKind}
@@ -35,6 +36,10 @@ module _ (out₀ : List ℕ) (at : ℕ) (x : List ℕ) where
   -- they do not fit
   pub piece-over : (out : List ℕ) (next count : ℕ) → length out₀ < at + length x → length out ≡ length out₀ → Fitted out₀ at (x ∷ []) out next count false
   piece-over out next count h e = let n = ap length (piece-long x) in fitted-no out₀ at (x ∷ []) out next count (omega arith) e
+
+-- where the next piece begins is within the output
+pub fitted-within : (out₀ : List ℕ) (at : ℕ) (x out : List ℕ) (next count : ℕ) → Fitted out₀ at (x ∷ []) out next count true → next ≤ length out
+fitted-within out₀ at x out next count w = omega (arith, w .place refl, w .long, fitted-room out₀ at (x ∷ []) w)
 
 -- no bytes are written
 pub nothing-fits : (out₀ : List ℕ) (at : ℕ) → at ≤ length out₀ → Fitted out₀ at [] out₀ at 0 true
@@ -103,3 +108,22 @@ module _ (left list : List ℕ) (a b : ℕ) (p : Places) (s : At left a (drop co
   pub levels-follow : afterAll true (p .lefts) (drop (p .left) left) ≡ levelsAt left
   unfolding levelsAt
   levels-follow = rw (r .lefts, r .at-left .rest, s .rest)
+
+-- ---- pieces one after another
+module _ (out₀ : List ℕ) (at : ℕ) (x y : List ℕ) where
+  -- the first does not fit: nor do both
+  pub both-over : {out : List ℕ} {next count : ℕ} → Fitted out₀ at (x ∷ []) out next count false → (n m : ℕ) → Fitted out₀ at ((x ++ y) ∷ []) out n m false
+  both-over {out = out} w n m = piece-over out₀ at (x ++ y) out n m (omega (arith, fitted-over out₀ at (x ∷ []) w, ap length (piece-long x), length-append x y)) (w .long)
+
+  -- it does: both fit as the second does after it
+  pub both-fit : {out : List ℕ} {next count : ℕ} → Fitted out₀ at (x ∷ []) out next count true → (out′ : List ℕ) (next′ count′ : ℕ) (fits : Bool) → Fitted out next (y ∷ []) out′ next′ count′ fits → Fitted out₀ at ((x ++ y) ∷ []) out′ next′ count′ fits
+  both-fit {out = out} {next = next} w out′ next′ count′ false v =
+      piece-over out₀ at (x ++ y) out′ next′ count′ (omega (arith, fitted-over out next (y ∷ []) v, w .place refl, w .long, ap length (piece-long x), ap length (piece-long y), length-append x y)) (v .long ∙ w .long)
+  both-fit {out = out} {next = next} w out′ next′ count′ true v =
+      let a = ap length (piece-long x) in
+      let b = ap length (piece-long y) in
+      let r = fitted-room out next (y ∷ []) v in
+      let e = w .place refl in
+      let f = v .place refl in
+      let laid = put-next out₀ out out′ at next x y (omega (arith, fitted-room out₀ at (x ∷ []) w)) (w .laid refl ∙ ap (put out₀ at) (piece-long x)) (omega arith) (v .laid refl ∙ ap (put out next) (piece-long y)) in
+      subst (λ (n : ℕ). Fitted out₀ at ((x ++ y) ∷ []) out′ next′ n true) (sym (v .many refl)) (piece-fits out₀ at (x ++ y) out′ next′ (omega (arith, w .long, length-append x y)) (omega (arith, length-append x y)) laid)
