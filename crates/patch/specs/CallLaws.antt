@@ -22,7 +22,7 @@ use Rattle.model.specs.OverlaidLaws.{patching-candidate, patching-long}
 use Rattle.snapshot_read.specs.Reading.{isSnapshot}
 use Rattle.snapshot_read.specs.ReadingLaws.{snapshot-read, snapshot-none}
 use Rattle.patch_list.specs.List.{isSome, isList}
-use Rattle.patch_list.specs.CountLaws.{list-few}
+use Rattle.patch_list.specs.ListLaws.{few}
 use Rattle.patch_scan.specs.Outcome.{outcomeOf}
 use Rattle.patch_scan.specs.OutcomeLaws.{outcome-back}
 
@@ -68,7 +68,7 @@ module _ (left list : List ℕ) (room : ℕ) where
     outcome-is =
         let a = snapshot-says full left s (snapshot-read left h .1) in
         let d = decodeList-sound full list ds (list-read list k .1) in
-        sym (ap (λ (bs : List ℕ). outcomeOf bs (writeDifferences ds)) (a .1) ∙ ap (outcomeOf left) (d .1)) ∙ outcome-back s ds (a .0) (d .0) (list-few list ds b (list-read list k .1))
+        sym (ap (λ (bs : List ℕ). outcomeOf bs (writeDifferences ds)) (a .1) ∙ ap (outcomeOf left) (d .1)) ∙ outcome-back s ds (a .0) (d .0) (few list b ds (list-read list k .1))
 
     -- it is longer than any snapshot
     pub too-long : longestSnapshot < length (outcomeOf left list) → patching full left list room ≡ refused 14

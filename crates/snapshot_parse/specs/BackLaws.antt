@@ -47,12 +47,12 @@ module _ (k x : List ℕ) (h : length k ≤ keyRoom) where
   key-past = ap (drop 1) key-is ∙ number-past 1 (length k) (k ++ x)
 
   -- a key that was written is read back
-  key-back : keyIn (writeKey k ++ x) ≡ k
+  pub key-back : keyIn (writeKey k ++ x) ≡ k
   unfolding keyIn
   key-back = rw (key-length, key-past) (take-at k x (length k) refl)
 
   -- the bytes after it
-  key-rest : afterKey (writeKey k ++ x) ≡ x
+  pub key-rest : afterKey (writeKey k ++ x) ≡ x
   unfolding afterKey
   key-rest = rw (key-length, key-past) (drop-at k x (length k) refl)
 
