@@ -1,13 +1,15 @@
 -- Laws of a list applied to a snapshot: what each test decides, and that the outcome made of their bytes is the answer. Assumes nothing.
-use Prim.Native.Nat.{ℕ, _≤_, _<_}
-use mathlib.Core.Path.{_≡_, refl, sym, ap, _∙_, subst}
-use mathlib.Core.Bool.{Bool, true, false}
-use mathlib.Core.List.{List}
+use Prim.Native.Nat.{ℕ, _-_, _≤_, _<_}
+use mathlib.Core.Path.{_≡_, refl, sym, ap, _∙_}
+use mathlib.Core.Bool.{true, false}
+use mathlib.Core.List.{List, [], _∷_}
 use mathlib.Core.Option.{Option, none, some}
 use native.Mathlib.Omega.{arith}
-use lib.ListN.{length}
+use lib.ListN.{length, take, drop}
+use lib.Seq.{take-at}
 use lib.Pow.{areBytes}
 use Rattle.lemmas.specs.Order.{clash}
+use Rattle.lemmas.specs.Slices.{put, put-front}
 use Rattle.model.specs.Answer.{gives, refused}
 use Rattle.model.specs.File.{State, full}
 use Rattle.model.specs.Calls.{read, orBad}
@@ -25,6 +27,8 @@ use Rattle.patch_list.specs.List.{isSome, isList}
 use Rattle.patch_list.specs.ListLaws.{few}
 use Rattle.patch_scan.specs.Outcome.{outcomeOf}
 use Rattle.patch_scan.specs.OutcomeLaws.{outcome-back}
+use Rattle.patch_scan.specs.Over.{Fitted}
+use Rattle.patch_scan.specs.FittedLaws.{piece-long, fitted-room, fitted-over}
 
 -- ---- lists
 -- what is a list is read
@@ -96,3 +100,26 @@ module _ (left list : List ℕ) (room : ℕ) where
       -- it is not
       pub outcome-given : isSnapshot (outcomeOf left list) ≡ true → length (outcomeOf left list) ≤ room → patching full left list room ≡ gives (outcomeOf left list)
       outcome-given e l = outcome e ∙ fitting-gives room (outcomeOf left list) l
+
+-- ---- the outcome in room of its own
+module _ (x own own′ : List ℕ) (n m : ℕ) where
+  -- it does not fit: it is longer than the room
+  pub laid-over : Fitted own 0 (x ∷ []) own′ n m false → length own < length x
+  laid-over w = omega (arith, fitted-over own 0 (x ∷ []) w, ap length (piece-long x))
+
+  module _ (w : Fitted own 0 (x ∷ []) own′ n m true) where
+    -- it fits: how long it is
+    pub laid-long : n ≡ length x
+    laid-long = omega (arith, w .place refl, ap length (piece-long x))
+
+    -- it stands at the start
+    pub laid-front : own′ ≡ put own 0 x
+    laid-front = w .laid refl ∙ ap (put own 0) (piece-long x)
+
+    -- within the room
+    pub laid-within : length x ≤ length own
+    laid-within = omega (arith, fitted-room own 0 (x ∷ []) w, ap length (piece-long x))
+
+    -- the bytes up to its end are it
+    pub laid-cut : take (n - 0) own′ ≡ x
+    laid-cut = ap (take (n - 0)) (laid-front ∙ put-front own x) ∙ take-at x (drop (length x) own) (n - 0) (omega (arith, laid-long))

@@ -292,5 +292,13 @@ pub fn lay_outcome(left: &[u8], list: &[u8], out: &mut [u8]) -> Piece
     }
     let n = snapshot_parse::get_number(list, 0, Snapshot::COUNT);
     let files_in = snapshot_parse::after(list, 0, Snapshot::COUNT);
-    lay_levels(left, pointers.left, list, files_in, n as usize, out, pointers.next)
+    lay_levels(
+        left,
+        pointers.left,
+        list,
+        files_in,
+        n as usize,
+        out,
+        pointers.next,
+    )
 }

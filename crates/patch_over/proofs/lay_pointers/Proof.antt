@@ -33,7 +33,7 @@ returns c =
     let s = p .after .ensures .1 in
     let r = g .runs-at .ensures in (
       subst (λ (es : List (List ℕ)). Fitted (a .out .now) (a .at) (section asIs es ∷ []) (m .lay-section .last .1 .1 .1 .1 .0) (m .lay-section .result .next) (m .lay-section .result .count) (m .lay-section .result .fits))
-      (pointers-over (a .left .now) (a .list .now) (p .after .result) (a .b) from s r) (e .0),
+          (pointers-over (a .left .now) (a .list .now) (p .after .result) (a .b) from s r) (e .0),
       λ t. let w = e .1 t .at-left in record { within = w .within; rest = w .rest ∙ levels-follow (a .left .now) (a .list .now) (p .after .result) (a .b) from s r },
     )
 
