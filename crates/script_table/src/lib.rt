@@ -615,7 +615,7 @@ fn put_names(out: &mut [u8], table: &[u8]) -> usize {
     while at < n {
         let end = script_words::place_of(table, at, n, b'\n');
         let name = script_words::place_of(table, at, end, b' ');
-        to = put_gap(out, to);
+        to = script_lines::put_gap(out, to);
         to = put_run(out, to, table, at, name);
         if n <= end {
             return to;
@@ -623,14 +623,6 @@ fn put_names(out: &mut [u8], table: &[u8]) -> usize {
         at = end + 1;
     }
     to
-}
-
-// A blank, unless the line begins here.
-fn put_gap(out: &mut [u8], at: usize) -> usize {
-    if at == 0 {
-        return at;
-    }
-    script_lines::put_byte(out, at, b' ')
 }
 
 // How a command is written and what it answers: its name, then the help text of its entry.

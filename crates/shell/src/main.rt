@@ -59,6 +59,16 @@ fn ask(out: &mut [u8], s: Store, line: &[u8], group: u8, which: u8) {
     print(out, at)
 }
 
+// Writes the store's snapshot: keeps it under a letter, or saves it to a file.
+fn write(out: &mut [u8], kept: &mut [u8], s: Store, line: &[u8], which: u8) {
+    if which == b'k' {
+        let at = shell_difference::keep(out, s, line, kept);
+        return print(out, at);
+    }
+    let at = shell_file::save(out, s, line);
+    print(out, at)
+}
+
 // A fresh store, or the maximum file size that picks take from here on.
 fn settle(out: &mut [u8], m: Machine, line: &[u8], which: u8) -> Machine {
     let at = script_lines::put(out, 0, b"ok");
@@ -93,7 +103,7 @@ fn no_command() -> Command {
 }
 
 // Reads a line, and answers it where that needs no store.
-fn begin(out: &mut [u8], line: &[u8]) -> Command {
+fn begin(out: &mut [u8], kept: &[u8], line: &[u8]) -> Command {
     if is_silent(line) {
         return no_command();
     }
@@ -105,6 +115,11 @@ fn begin(out: &mut [u8], line: &[u8]) -> Command {
     }
     if r.group == b'p' {
         answer_plain(out, line, r.which);
+        return no_command();
+    }
+    if r.group == b'd' {
+        let at = shell_difference::put_answer(out, kept, line, r.which);
+        print(out, at);
         return no_command();
     }
     Command {
@@ -121,17 +136,24 @@ fn turned(out: &mut [u8], m: Machine, line: &[u8], group: u8, which: u8) -> Mach
     if group == b'k' {
         return shell_machine::pick_next(out, m, line, which);
     }
+    if group == b'o' {
+        return shell_machine::open(out, m, line);
+    }
     shell_machine::follow(out, m, line, which)
 }
 
 // Answers a line.
-fn answer(out: &mut [u8], m: Machine, line: &[u8]) -> Machine {
-    let c = begin(out, line);
+fn answer(out: &mut [u8], kept: &mut [u8], m: Machine, line: &[u8]) -> Machine {
+    let c = begin(out, kept, line);
     if c.group == 0 {
         return m;
     }
     if (c.group == b'a') | (c.group == b'q') {
         ask(out, m.store, line, c.group, c.which);
+        return m;
+    }
+    if c.group == b'w' {
+        write(out, kept, m.store, line, c.which);
         return m;
     }
     if c.group == b'm' {
@@ -162,9 +184,15 @@ fn front_of(out: &mut [u8], line: &[u8], count: usize) -> usize
 }
 
 // Answers the line of so many bytes.
-fn take(out: &mut [u8], m: Machine, line: &[u8], count: usize) -> Machine {
+fn take(
+    out: &mut [u8],
+    kept: &mut [u8],
+    m: Machine,
+    line: &[u8],
+    count: usize,
+) -> Machine {
     let n = front_of(out, line, count);
-    answer(out, m, &line[0..n])
+    answer(out, kept, m, &line[0..n])
 }
 
 // One byte more of a line. If there is no room, only the count grows, up to one past the room.
@@ -182,6 +210,7 @@ fn push(line: &mut [u8], n: usize, b: u8) -> usize {
 // Reads standard input block after block and answers line after line.
 fn main() {
     let mut m = shell_machine::fresh(MAXIMUM);
+    let mut kept = shell_difference::nothing();
     let mut out = io::large_buffer();
     let mut line = io::large_buffer();
     let mut n: usize = 0;
@@ -192,7 +221,7 @@ fn main() {
         let count = io::count(got, &block);
         if count == 0 {
             if 0 < n {
-                m = take(&mut out, m, &line, n);
+                m = take(&mut out, &mut kept, m, &line, n);
             }
             return;
         }
@@ -200,7 +229,7 @@ fn main() {
         while i < count {
             let b = block[i];
             if b == b'\n' {
-                m = take(&mut out, m, &line, n);
+                m = take(&mut out, &mut kept, m, &line, n);
                 n = 0;
             } else {
                 n = push(&mut line, n, b);

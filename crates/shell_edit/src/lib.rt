@@ -94,7 +94,7 @@ fn read_hex(line: &[u8], from: usize, to: usize) -> Stored
 }
 
 // The store after a read: the one before it on a refusal.
-fn loaded(s: Store, r: Stored) -> Changed
+pub fn loaded(s: Store, r: Stored) -> Changed
     ensures { λ x. ⌜ x ≡ loadedBy s r ⌝ }
 {
     let o = r.outcome;

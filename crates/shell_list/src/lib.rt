@@ -133,14 +133,6 @@ fn put_entry(out: &mut [u8], at: usize, list: &[u8], from: usize, section: u8) -
     put_of_counters(out, at, list, from)
 }
 
-// A blank, unless the line begins here.
-fn put_gap(out: &mut [u8], at: usize) -> usize {
-    if at == 0 {
-        return at;
-    }
-    script_lines::put_byte(out, at, b' ')
-}
-
 // The entries of the section that begins where the list is told up to: their count, then each. Requires: the place is within the list.
 fn put_section(out: &mut [u8], told: Told, list: &[u8], section: u8) -> Told
     requires { ⌜ told .from ≤ length (now list) ⌝ }
@@ -151,7 +143,7 @@ fn put_section(out: &mut [u8], told: Told, list: &[u8], section: u8) -> Told
     let mut at = told.at;
     let mut from = snapshot_parse::after(list, start, Snapshot::COUNT);
     while 0 < n {
-        let gap = put_gap(out, at);
+        let gap = script_lines::put_gap(out, at);
         let next = put_entry(out, gap, list, from, section);
         at = next.at;
         from = next.from;
