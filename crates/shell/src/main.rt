@@ -142,6 +142,16 @@ fn turned(out: &mut [u8], m: Machine, line: &[u8], group: u8, which: u8) -> Mach
     shell_machine::follow(out, m, line, which)
 }
 
+// Answers a command that changes the machine.
+fn turn(out: &mut [u8], m: Machine, line: &[u8], group: u8, which: u8) -> Machine {
+    if group == b'm' {
+        return settle(out, m, line, which);
+    }
+    let after = turned(out, m, line, group, which);
+    print(out, after.at);
+    after
+}
+
 // Answers a line.
 fn answer(out: &mut [u8], kept: &mut [u8], m: Machine, line: &[u8]) -> Machine {
     let c = begin(out, kept, line);
@@ -156,12 +166,7 @@ fn answer(out: &mut [u8], kept: &mut [u8], m: Machine, line: &[u8]) -> Machine {
         write(out, kept, m.store, line, c.which);
         return m;
     }
-    if c.group == b'm' {
-        return settle(out, m, line, c.which);
-    }
-    let after = turned(out, m, line, c.group, c.which);
-    print(out, after.at);
-    after
+    turn(out, m, line, c.group, c.which)
 }
 
 // How many bytes of a line count: without a carriage return at its end. Says so if the line is too long, and then counts none.

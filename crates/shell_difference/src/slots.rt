@@ -1,8 +1,9 @@
 // Snapshots kept under the letters a and b, in lent bytes: a slot for each, which begins with the length of what it holds. A length of 0: nothing is kept.
-ghost use Prim.Native.Nat.{_+_, _*_, _≤_};
+ghost use Prim.Native.Nat.{_+_, _≤_};
 ghost use mathlib.Core.Path.{_≡_};
 ghost use lib.ListN.{length};
-ghost use Rattle.model.specs.Snapshot.{countLong, longestSnapshot};
+ghost use Rattle.model.specs.Snapshot.{countLong};
+ghost use Rattle.shell_difference.specs.Slots.{slotLong, keptLong};
 use answers::Refusal;
 use script_parts::Run;
 use snapshot_parts::Snapshot;
@@ -21,14 +22,14 @@ impl Kept {
 
 // Slots in which nothing is kept.
 pub fn nothing() -> [u8; Kept::ROOM]
-    ensures { λ r. ⌜ 2 * (countLong + longestSnapshot) ≡ length r ⌝ }
+    ensures { λ r. ⌜ keptLong ≡ length r ⌝ }
 {
     [0u8; Kept::ROOM]
 }
 
 // Where the slot of a letter begins.
 fn slot_of(letter: u8) -> usize
-    ensures { λ r. ⌜ r ≤ countLong + longestSnapshot ⌝ }
+    ensures { λ r. ⌜ r ≤ slotLong ⌝ }
 {
     if letter == b'b' {
         return Kept::SLOT;
