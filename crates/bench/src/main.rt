@@ -1,5 +1,5 @@
 // bench OPERATION FILES REPEATS: does an operation so many times on a store of so many files, and prints how many were done. Operations: edit, form, write, read,
-// pick, manual, overlap, lookup, base, cut; search, bases, advance do as lookup, base and cut with what was tested once.
+// diff (each file differs), same (none does), pick, manual, overlap, lookup, base, cut; search, bases, advance do as lookup, base and cut with what was tested once.
 ghost use mathlib.Core.Path.{_≡_};
 ghost use mathlib.Core.Bool.{true};
 ghost use Prim.Native.Nat.{_<_, _≤_};
@@ -10,6 +10,7 @@ use answers::Counted;
 use answers::Outcome;
 use bench_loops::Round;
 use compact_cutter::Cutter;
+use difference::List;
 use edit::Addition;
 use edit::Deletion;
 use edit::Edit;
@@ -18,6 +19,7 @@ use keys::Key;
 use level_list::FileList;
 use pick_answer::Picked;
 use records::Version;
+use snapshot_parts::Snapshot;
 use snapshot_write::Written;
 use store::Store;
 use store::Stored;
@@ -252,15 +254,15 @@ fn bench_form(files: u64, repeats: u64) -> u64 {
 }
 
 // The snapshot of a store, in bytes as many as the longest has.
-fn snapshot(s: Store) -> [u8; 25440] {
-    let mut out = [0u8; 25440];
+fn snapshot(s: Store) -> [u8; Snapshot::LONGEST] {
+    let mut out = [0u8; Snapshot::LONGEST];
     snapshot_write::write(s, &mut out);
     out
 }
 
 // How long the snapshot of a store is.
 fn length_of(s: Store) -> usize {
-    let mut out = [0u8; 25440];
+    let mut out = [0u8; Snapshot::LONGEST];
     let w = snapshot_write::write(s, &mut out);
     match w {
         Written::Bytes(n) => n,
@@ -283,8 +285,8 @@ fn bench_write(files: u64, repeats: u64) -> u64 {
 }
 
 // Whether bytes are read as a snapshot.
-fn is_read(bytes: [u8; 25440], length: usize) -> bool {
-    let end = length % 25440;
+fn is_read(bytes: [u8; Snapshot::LONGEST], length: usize) -> bool {
+    let end = octets::lesser(length, Snapshot::LONGEST);
     let r = snapshot_read::read(&bytes[0..end]);
     let o = r.outcome;
     is_done(o)
@@ -299,6 +301,42 @@ fn bench_read(files: u64, repeats: u64) -> u64 {
     let mut k: u64 = 0;
     while k < repeats {
         if is_read(bytes, n) {
+            done = (done + 1) % 1000000000;
+        }
+        k += 1;
+    }
+    done
+}
+
+// Whether two snapshots are compared.
+fn is_compared(
+    left: [u8; Snapshot::LONGEST],
+    n: usize,
+    right: [u8; Snapshot::LONGEST],
+    m: usize,
+) -> bool {
+    let left_end = octets::lesser(n, Snapshot::LONGEST);
+    let right_end = octets::lesser(m, Snapshot::LONGEST);
+    let mut out = [0u8; List::LONGEST];
+    let w = difference::differing(&left[0..left_end], &right[0..right_end], &mut out);
+    match w {
+        Written::Bytes(n) => true,
+        Written::Refused(n) => false,
+    }
+}
+
+// The snapshots of two stores compared, so many times; the right's files have this size.
+fn bench_compared(files: u64, repeats: u64, size: u64) -> u64 {
+    let s = filled(files, SMALL);
+    let n = length_of(s);
+    let left = snapshot(s);
+    let t = filled(files, size);
+    let m = length_of(t);
+    let right = snapshot(t);
+    let mut done: u64 = 0;
+    let mut k: u64 = 0;
+    while k < repeats {
+        if is_compared(left, n, right, m) {
             done = (done + 1) % 1000000000;
         }
         k += 1;
@@ -613,6 +651,12 @@ fn run(word: &[u8], n: usize, files: u64, repeats: u64) -> u64 {
     }
     if is_operation(word, n, b"read") {
         return bench_read(files, repeats);
+    }
+    if is_operation(word, n, b"diff") {
+        return bench_compared(files, repeats, SMALL + 1);
+    }
+    if is_operation(word, n, b"same") {
+        return bench_compared(files, repeats, SMALL);
     }
     run_more(word, n, files, repeats)
 }

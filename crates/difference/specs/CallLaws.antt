@@ -1,43 +1,21 @@
 -- Laws of the comparison of two snapshots: what each test decides, and that the list made of their bytes is the answer. Assumes nothing.
-use Prim.Native.Nat.{ℕ, _-_, _≤_, _<_}
-use mathlib.Core.Path.{_≡_, refl, sym, ap, _∙_}
-use mathlib.Core.Bool.{Bool, true, false}
-use mathlib.Core.List.{List, _++_}
-use mathlib.Core.Option.{Option, none, some}
+use Prim.Native.Nat.{ℕ, _≤_, _<_}
+use mathlib.Core.Path.{_≡_, sym, ap, _∙_}
+use mathlib.Core.Bool.{true, false}
+use mathlib.Core.List.{List}
 use native.Mathlib.Omega.{arith}
-use lib.ListN.{length, take, drop}
-use lib.Seq.{take-at}
-use Rattle.lemmas.specs.Order.{clash}
-use Rattle.lemmas.specs.Slices.{put, put-front}
+use lib.ListN.{length}
 use Rattle.model.specs.Answer.{gives, refused}
 use Rattle.model.specs.File.{State, full}
-use Rattle.model.specs.Snapshot.{encode, decode}
+use Rattle.model.specs.Snapshot.{encode}
 use Rattle.model.specs.Difference.{differences}
 use Rattle.model.specs.DifferenceBytes.{writeDifferences, longestList, differing}
 use Rattle.model.specs.DifferenceLengthLaws.{list-most-bytes}
 use Rattle.model.specs.DifferingLaws.{snapshot-says, differing-left, differing-right, differing-short, differing-gives}
-use Rattle.snapshot_read.specs.Reading.{isSome, isSnapshot}
+use Rattle.snapshot_read.specs.Reading.{isSnapshot}
+use Rattle.snapshot_read.specs.ReadingLaws.{snapshot-read, snapshot-none}
 use Rattle.difference_scan.specs.Listing.{listOf}
 use Rattle.difference_scan.specs.ListingLaws.{list-back}
-
--- ---- snapshots
--- what is a snapshot is read
-pub snapshot-read : (bs : List ℕ) → isSnapshot bs ≡ true → (s : State) × (decode full bs ≡ some s)
-unfolding isSnapshot isSome
-snapshot-read bs h = go (decode full bs) refl h
-  where
-    go : (o : Option State) → decode full bs ≡ o → isSome o ≡ true → (s : State) × (decode full bs ≡ some s)
-    go none e k = clash k refl
-    go (some s) e k = (s, e)
-
--- what is none is not
-pub snapshot-none : (bs : List ℕ) → isSnapshot bs ≡ false → decode full bs ≡ none
-unfolding isSnapshot isSome
-snapshot-none bs h = go (decode full bs) refl h
-  where
-    go : (o : Option State) → decode full bs ≡ o → isSome o ≡ false → decode full bs ≡ none
-    go none e k = e
-    go (some s) e k = clash refl k
 
 -- ---- the answer
 module _ (left right : List ℕ) (room : ℕ) where
@@ -78,9 +56,3 @@ module _ (left right : List ℕ) (room : ℕ) where
     -- it is not
     pub list-given : length (listOf left right) ≤ room → differing full left right room ≡ gives (listOf left right)
     list-given q = differing-gives full left right room s t (snapshot-read left h .1) (snapshot-read right k .1) (omega (arith, ap length list-is)) ∙ ap (λ (d : List ℕ). gives d) (sym list-is)
-
--- bytes that were written at the start of room of their own are copied to the start of the output
-pub copied : (d own own′ out out′ : List ℕ) (n : ℕ) → length d ≤ length own → own′ ≡ put own 0 d → n ≡ length d → out′ ≡ put out 0 (take (n - 0) own′) → out′ ≡ d ++ drop (length d) out
-copied d own own′ out out′ n h e f g =
-    let part : take (n - 0) own′ ≡ d = ap (take (n - 0)) (e ∙ put-front own d) ∙ take-at d (drop (length d) own) (n - 0) (omega (arith, f)) in
-    g ∙ ap (put out 0) part ∙ put-front out d

@@ -18,7 +18,7 @@ use Rattle.snapshot_parse.specs.ParsingLaws.{parts-length}
 use Rattle.difference_scan.specs.Scan.{afterPart, partBytes, riseOf, partsAt, runEntries, afterAll, leftEntry, rightEntry, sameKind, kindAt, entryOf}
 use Rattle.difference_scan.specs.ScanLaws.{part-lent}
 use Rattle.difference_scan.specs.Turns.{entriesOf, leftOver, placeAfter, bytesAfter}
-use Rattle.difference_scan.specs.TurnLaws.{Turned, turned, entries-none, all-none}
+use Rattle.difference_scan.specs.TurnLaws.{place-after, over-less, Turned, turned, entries-none, all-none}
 use Rattle.difference_scan.specs.Listing.{advancedBy, countedBy}
 use Rattle.difference_scan.specs.declared.Places.{Places}
 use Rattle.difference_scan.specs.declared.Turn.{Turn}
@@ -33,24 +33,6 @@ one-counted p k l listed x y = go (eqb k sameKind) (eqb k leftKind)
     go true b = omega arith
     go false true = refl
     go false false = refl
-
--- a side after a turn: the place is that of the bytes that are left
-pub side-after : (p : Bool) (o k at end : ℕ) (src : List ℕ) → at ≤ length src → At src end (afterPart p (drop at src)) → At src (placeAfter o k at end) (bytesAfter p o k (drop at src))
-unfolding placeAfter bytesAfter
-side-after p o k at end src h t = go (eqb k o)
-  where
-    go : (b : Bool) → At src (cond b at end) (cond b (drop at src) (afterPart p (drop at src)))
-    go true = record { within = h; rest = refl }
-    go false = t
-
--- fewer parts are left of it, or as many
-pub over-less : (o k n : ℕ) → leftOver o k n ≤ n
-unfolding leftOver
-over-less o k n = go (eqb k o)
-  where
-    go : (b : Bool) → cond b n (n - 1) ≤ n
-    go true = omega arith
-    go false = omega arith
 
 -- ---- the places after a turn, by its kind
 module _ (q : Places) (t : Turn) where
@@ -115,12 +97,12 @@ module _ (p : Bool) (l : ℕ) (left right : List ℕ) where
 
     -- each side after it
     left-side : At left (advancedBy q t .left) (bytesAfter p rightKind (t .kind) (drop (q .left) left))
-    unfolding advancedBy
-    left-side = side-after p rightKind (t .kind) (q .left) (t .left) left (f .in-left) (f .end-left)
+    unfolding advancedBy bytesAfter
+    left-side = place-after rightKind (t .kind) (q .left) (t .left) left (afterPart p (drop (q .left) left)) (f .in-left) (f .end-left)
 
     right-side : At right (advancedBy q t .right) (bytesAfter p leftKind (t .kind) (drop (q .right) right))
-    unfolding advancedBy
-    right-side = side-after p leftKind (t .kind) (q .right) (t .right) right (f .in-right) (f .end-right)
+    unfolding advancedBy bytesAfter
+    right-side = place-after leftKind (t .kind) (q .right) (t .right) right (afterPart p (drop (q .right) right)) (f .in-right) (f .end-right)
 
     -- all entries are this one and those that are left
     pub entries-on : entriesAt q ≡ entry ++ entriesAt (advancedBy q t)

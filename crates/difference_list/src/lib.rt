@@ -111,8 +111,8 @@ fn lay_run(
     }
 }
 
-// Where the runs of two sections begin: after their counts. Requires: the places are within the bytes.
-fn runs_at(left: &[u8], a: usize, right: &[u8], b: usize) -> Places
+// Where the runs of two sections begin: after their counts. Internal. Requires: the places are within the bytes.
+pub fn runs_at(left: &[u8], a: usize, right: &[u8], b: usize) -> Places
     requires { ⌜ (a ≤ length (now left)) × (b ≤ length (now right)) ⌝ }
     ensures { λ r. ⌜ RunsAt (now (left .entry)) a (now (right .entry)) b r ⌝ }
 {

@@ -31,7 +31,7 @@ use Rattle.difference_scan.specs.WrittenLaws.{Written, sections-back, se
 
 -- ---- files and pointers
 -- the files of a level are parts as the scan takes them
-files-written : (l : ℕ) → Written false l Fit writeFile (λ (f : File). f .number) sameContents (λ (f : File). onlyLeft l (f .number)) (onlyRight l) (changed l)
+pub files-written : (l : ℕ) → Written false l Fit writeFile (λ (f : File). f .number) sameContents (λ (f : File). onlyLeft l (f .number)) (onlyRight l) (changed l)
 unfolding riseLong afterPart head tail writeFile writeDifference
 files-written l = record {
   begins = λ f. (bytes numberLong (f .size) ++ (writeKey (f .smallest) ++ writeKey (f .largest)), simp append-assoc);
@@ -46,11 +46,11 @@ files-written l = record {
 }
 
 -- a pointer whose parts fit their bytes
-abbrev FitEntry : Entry → Type 0
+abbrev pub FitEntry : Entry → Type 0
 FitEntry e = (e .level < 256) × (length (e .key) ≤ keyRoom)
 
 -- the pointers are such parts too
-pointers-written : Written true 0 FitEntry writeEntry (λ (e : Entry). e .level) (λ e f. sameBytes (e .key) (f .key)) (λ (e : Entry). pointerIs (e .level) none)
+pub pointers-written : Written true 0 FitEntry writeEntry (λ (e : Entry). e .level) (λ e f. sameBytes (e .key) (f .key)) (λ (e : Entry). pointerIs (e .level) none)
     (λ (e : Entry). pointerIs (e .level) (some (e .key))) (λ (e : Entry). pointerIs (e .level) (some (e .key)))
 unfolding riseLong afterPart head tail writeEntry writeKey writeDifference keyOf
 pointers-written = record {
@@ -101,25 +101,25 @@ section-as-is ds = rw (length-map ds writeDifference, map-same (map writeDiffere
 -- a state and its bytes
 module _ (s : State) (w : WF full s) where
   -- the sections of k levels from level l on
-  abbrev levelsFrom : ℕ → ℕ → List ℕ
+  abbrev pub levelsFrom : ℕ → ℕ → List ℕ
   levelsFrom l k = join (map (λ l. writeLevel (level s l)) (upFrom l k))
 
   -- its counts fit their bytes
-  stored : Storable s
+  pub stored : Storable s
   stored = storable full s full-fits w
 
   -- the files of a level fit theirs
-  level-fits : (l : ℕ) (f : File) → In f (sort byNumber (level s l)) → Fit f
+  pub level-fits : (l : ℕ) (f : File) → In f (sort byNumber (level s l)) → Fit f
   unfolding level
   level-fits l f m = files-fit s w f (join-in (s .files) l f (sort-in byNumber (level s l) f .0 m))
 
   -- the levels follow the pointers
-  levels-at : levelsAt (encode s) ≡ levelsFrom 0 levelCount
+  pub levels-at : levelsAt (encode s) ≡ levelsFrom 0 levelCount
   unfolding levelsAt
   levels-at = rw (past-counters s w) (section-past pointers-written (entries 0 (s .pointers)) (levelsFrom 0 levelCount) (entries-fit s w) (stored .few-pointers))
 
   -- the bytes of a counter
-  counter-back : (i : ℕ) → i < counterCount → counterBytes (encode s) i ≡ bytes numberLong (counterAt s i)
+  pub counter-back : (i : ℕ) → i < counterCount → counterBytes (encode s) i ≡ bytes numberLong (counterAt s i)
   unfolding counterBytes counterAt fiveOf
   counter-back i h =
       let ns = fiveOf (s .counters) in

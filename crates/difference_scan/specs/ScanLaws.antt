@@ -34,12 +34,16 @@ pub file-after : (p : Bool) (src : List ℕ) (at start middle next : ℕ) → p 
 unfolding afterPart afterFile
 file-after p src at start middle next e s t u = rw e (record { within = u .within; rest = u .rest ∙ ap afterKey (t .rest ∙ ap afterKey (s .rest)) })
 
+-- the bytes between two places, of which those after the second are known
+pub cut-lent : (src : List ℕ) (at end : ℕ) (after : List ℕ) → at ≤ end → At src end after → take (end - at) (drop at src) ≡ take (length (drop at src) - length after) (drop at src)
+cut-lent src at end after h t =
+    let e : length (drop at src) - length after ≡ end - at = omega (arith, ap length (t .rest), length-drop end src, length-drop at src, t .within) in
+    ap (λ (n : ℕ). take n (drop at src)) (sym e)
+
 -- the bytes between a part's place and its end are the part
 pub part-lent : (p : Bool) (src : List ℕ) (at end : ℕ) → at ≤ end → At src end (afterPart p (drop at src)) → take (end - at) (drop at src) ≡ partBytes p (drop at src)
 unfolding partBytes
-part-lent p src at end h t =
-    let e : length (drop at src) - length (afterPart p (drop at src)) ≡ end - at = omega (arith, ap length (t .rest), length-drop end src, length-drop at src, t .within) in
-    ap (λ (n : ℕ). take n (drop at src)) (sym e)
+part-lent p src at end h t = cut-lent src at end (afterPart p (drop at src)) h t
 
 -- ---- what a turn finds
 module _ (n x m y : ℕ) where

@@ -14,13 +14,13 @@ use Rattle.lemmas.specs.Order.{clash}
 use Rattle.lemmas.specs.Compare.{compare, compare-left-end, compare-right-end, compare-left, compare-right, compare-same, compare-other}
 use Rattle.model.specs.Snapshot.{sameBytes}
 use Rattle.model.specs.DifferenceBytes.{leftKind, rightKind, changedKind}
-use Rattle.snapshot_parse.specs.Parsing.{numberIn, afterKey, keyLength, afterFile, afterEntry, partsIn, afterParts}
+use Rattle.snapshot_parse.specs.Parsing.{At, numberIn, afterKey, keyLength, afterFile, afterEntry, partsIn, afterParts}
 use Rattle.difference_scan.specs.Scan.{afterPart, partBytes, riseLong, riseOf, partsAt, afterAll, leftEntry, rightEntry, runEntries, sameKind, goesFirst, kindBy, kindAt, entryOf}
-use Rattle.difference_scan.specs.Turns.{entriesOf, leftOver, bytesAfter}
+use Rattle.difference_scan.specs.Turns.{entriesOf, leftOver, placeAfter, bytesAfter}
 
 -- ---- a part
 -- after a part its number is gone, if the bytes have it
-after-short : (p : Bool) (bs : List ℕ) → length (afterPart p bs) ≤ length bs - riseLong p
+pub after-short : (p : Bool) (bs : List ℕ) → length (afterPart p bs) ≤ length bs - riseLong p
 unfolding afterPart afterEntry afterFile afterKey riseLong
 after-short true bs = let l = drop 1 bs in omega (arith, length-drop (keyLength l) (drop 1 l), length-drop 1 l, length-drop 1 bs)
 after-short false bs =
@@ -67,9 +67,28 @@ pub entries-none : (p : Bool) (l : ℕ) (bs cs : List ℕ) → entriesOf p l 0 b
 unfolding entriesOf runEntries compare partsAt partsIn
 entries-none p l bs cs = refl
 
+-- ---- a side after a turn of kind k, where kind o passes it by
+-- its place is that of the bytes that are left
+pub place-after : (o k at end : ℕ) (src after : List ℕ) → at ≤ length src → At src end after → At src (placeAfter o k at end) (cond (eqb k o) (drop at src) after)
+unfolding placeAfter
+place-after o k at end src after h t = go (eqb k o)
+  where
+    go : (b : Bool) → At src (cond b at end) (cond b (drop at src) after)
+    go true = record { within = h; rest = refl }
+    go false = t
+
+-- fewer parts are left of it, or as many
+pub over-less : (o k n : ℕ) → leftOver o k n ≤ n
+unfolding leftOver
+over-less o k n = go (eqb k o)
+  where
+    go : (b : Bool) → cond b n (n - 1) ≤ n
+    go true = omega arith
+    go false = omega arith
+
 -- ---- a turn
 -- a part goes first: it is there, and the other is not, or has a higher number
-first-says : (n x m y : ℕ) → goesFirst n x m y ≡ true → (0 < n) × (0 < m → x < y)
+pub first-says : (n x m y : ℕ) → goesFirst n x m y ≡ true → (0 < n) × (0 < m → x < y)
 unfolding goesFirst
 first-says n x m y h = go (eqb n 0) refl (eqb m 0) refl h
   where
@@ -79,7 +98,7 @@ first-says n x m y h = go (eqb n 0) refl (eqb m 0) refl h
     go false e false f k = (omega (arith, eqb-false n 0 e), λ q. ltb-true x y k)
 
 -- it is there and does not go first: the other is there too, with no higher number
-first-not : (n x m y : ℕ) → goesFirst n x m y ≡ false → 0 < n → (0 < m) × (y ≤ x)
+pub first-not : (n x m y : ℕ) → goesFirst n x m y ≡ false → 0 < n → (0 < m) × (y ≤ x)
 unfolding goesFirst
 first-not n x m y h q = go (eqb n 0) refl (eqb m 0) refl h
   where
@@ -87,6 +106,16 @@ first-not n x m y h q = go (eqb n 0) refl (eqb m 0) refl h
     go true e b f k = absurd (omega (arith, eqb-true n 0 e))
     go false e true f k = clash refl k
     go false e false f k = (omega (arith, eqb-false m 0 f), ltb-false x y k)
+
+-- neither goes first, and one is there: both are, with one number
+pub both-there : (n x m y : ℕ) → 0 < n + m → goesFirst n x m y ≡ false → goesFirst m y n x ≡ false → (0 < n) × (0 < m) × (x ≡ y)
+both-there n x m y some h k = go (decLt 0 n)
+  where
+    go : Dec (0 < n) → (0 < n) × (0 < m) × (x ≡ y)
+    go (yes q) =
+        let f = first-not n x m y h q in
+        (q, f .0, omega (arith, f .1, first-not m y n x k (f .0) .1))
+    go (no q) = absurd (omega (arith, first-not m y n x k (omega arith) .0))
 
 -- of two runs, of which one has a part, what a turn finds
 module _ (p : Bool) (l n : ℕ) (bs : List ℕ) (m : ℕ) (cs : List ℕ) (some : 0 < n + m) where
@@ -161,21 +190,11 @@ module _ (p : Bool) (l n : ℕ) (bs : List ℕ) (m : ℕ) (cs : List ℕ) (some 
           (compare-right (riseOf p) sameBytes (leftEntry p l) (rightEntry p rightKind l) (rightEntry p changedKind l) (partBytes p bs) (partBytes p cs) lefts-on rights-on (omega (arith, q k, part-rise p bs, part-rise p cs)))
       go (no k) q = let e : n ≡ 0 = omega arith in rw (e, parts-none p bs) (compare-right-end (riseOf p) sameBytes (leftEntry p l) (rightEntry p rightKind l) (rightEntry p changedKind l) (partBytes p cs) rights-on)
 
-  -- neither goes first: both are there, with one number
-  both-there : goesFirst n x m y ≡ false → goesFirst m y n x ≡ false → (0 < n) × (0 < m) × (x ≡ y)
-  both-there h k = go (decLt 0 n)
-    where
-      go : Dec (0 < n) → (0 < n) × (0 < m) × (x ≡ y)
-      go (yes q) =
-          let f = first-not n x m y h q in
-          (q, f .0, omega (arith, f .1, first-not m y n x k (f .0) .1))
-      go (no q) = absurd (omega (arith, first-not m y n x k (omega arith) .0))
-
   -- both have the number: the same bytes, or not
   turned-both : goesFirst n x m y ≡ false → goesFirst m y n x ≡ false → (b : Bool) → same ≡ b → Turned (cond b sameKind changedKind)
   unfolding entriesOf runEntries entryOf leftOver bytesAfter
   turned-both h k b e =
-      let f = both-there h k in
+      let f = both-there n x m y some h k in
       go b e (f .0) (f .1) (omega (arith, f .2, part-rise p bs, part-rise p cs))
     where
       go : (b : Bool) → same ≡ b → 0 < n → 0 < m → riseOf p (partBytes p bs) ≡ riseOf p (partBytes p cs) → Turned (cond b sameKind changedKind)

@@ -30,7 +30,7 @@ part-cut p a y e =
     take-at a y (length (a ++ y) - length (afterPart p (a ++ y))) n
 
 -- parts whose ends are found are cut as they were written, and the bytes after them are left
-parts-cut : {A : Type 0} (p : Bool) (w : A → List ℕ) (xs : List A) (x : List ℕ) → ((a : A) → In a xs → (y : List ℕ) → afterPart p (w a ++ y) ≡ y)
+pub parts-cut : {A : Type 0} (p : Bool) (w : A → List ℕ) (xs : List A) (x : List ℕ) → ((a : A) → In a xs → (y : List ℕ) → afterPart p (w a ++ y) ≡ y)
     → (partsAt p (length xs) (join (map w xs) ++ x) ≡ map w xs) × (afterAll p (length xs) (join (map w xs) ++ x) ≡ x)
 unfolding partsAt afterAll
 parts-cut p w xs x ends = rw (map-same, length-map) at (parts-back asIs (partBytes p) (afterPart p) (map w xs) x each)
@@ -72,7 +72,7 @@ module _ {A : Type 0} {p : Bool} {l : ℕ} {Good : A → Type 0} {w : A → List
   rise-bytes a = let b = r .begins a in ap (take (riseLong p)) (b .1) ∙ take-at (bytes (riseLong p) (key a)) (b .0) (riseLong p) (bytes-length (riseLong p) (key a))
 
   -- its number
-  rise-back : (a : A) → Good a → riseOf p (w a) ≡ key a
+  pub rise-back : (a : A) → Good a → riseOf p (w a) ≡ key a
   unfolding riseOf numberIn
   rise-back a g = ap number (rise-bytes a) ∙ bytes-number (riseLong p) (key a) (r .small a g)
 

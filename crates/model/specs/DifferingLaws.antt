@@ -28,12 +28,12 @@ use Rattle.model.specs.DifferenceReadingLaws.{ListFits, goodList-says, d
 
 -- ---- the call that compares: for every input, its answer
 -- bytes laid into lent output that holds them
-fitting-gives : (room : ℕ) (bs : List ℕ) → length bs ≤ room → fitting room bs ≡ gives bs
+pub fitting-gives : (room : ℕ) (bs : List ℕ) → length bs ≤ room → fitting room bs ≡ gives bs
 unfolding fitting firstOf _⇒_
 fitting-gives room bs h = let e : ltb room (length bs) ≡ false = le-ltb room (length bs) h in rw e
 
 -- and that does not
-fitting-short : (room : ℕ) (bs : List ℕ) → room < length bs → fitting room bs ≡ refused 13
+pub fitting-short : (room : ℕ) (bs : List ℕ) → room < length bs → fitting room bs ≡ refused 13
 unfolding fitting firstOf _⇒_
 fitting-short room bs h = let e : ltb room (length bs) ≡ true = lt-ltb room (length bs) h in rw e
 

@@ -88,7 +88,7 @@ names-is l n (pointerIs m o) = refl
 names-is l n (counterIs i v) = refl
 
 -- an entry of a level names its own number there
-names-own : (l : ℕ) (d : Difference) → isOfLevel l d ≡ true → names l (numberNamed d) d ≡ true
+pub names-own : (l : ℕ) (d : Difference) → isOfLevel l d ≡ true → names l (numberNamed d) d ≡ true
 names-own l d h = names-is l (numberNamed d) d ∙ both (isOfLevel l d) (eqb (numberNamed d) (numberNamed d)) h (eq-eqb (numberNamed d) (numberNamed d) refl)
 
 -- a number is named exactly where an entry of the level names it

@@ -1,4 +1,14 @@
 pub mod Listed
 pub mod Outcome
 pub mod Over
+pub mod Ends
+pub mod ListedLaws
 pub mod OverLaws
+pub mod FittedLaws
+pub mod OverRunLaws
+pub mod OverlayMapLaws
+pub mod EntryLaws
+pub mod RunLaws
+pub mod LevelLaws
+pub mod CounterLaws
+pub mod OutcomeLaws

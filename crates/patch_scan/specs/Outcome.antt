@@ -4,8 +4,6 @@ use mathlib.Core.Bool.{cond, true, false, _&&_}
 use mathlib.Core.List.{List, [], _∷_, _++_}
 use lib.Dec.{eqb, ltb}
 use lib.ListN.{take, drop}
-use Rattle.lemmas.specs.Lists.{join}
-use Rattle.lemmas.specs.Little.{bytes}
 use Rattle.model.specs.File.{levelCount}
 use Rattle.model.specs.Snapshot.{section, byteLong, countLong, numberLong, counterCount}
 use Rattle.snapshot_parse.specs.Parsing.{numberIn}

@@ -152,3 +152,22 @@ module _ (bs : List ℕ) where
       go true h o e = sym (ap isSome (sym e ∙ decoded h))
       go false h none e = refl
       go false h (some t) e = clash (parsed t e) h
+
+-- ---- bytes that are a snapshot, and bytes that are none
+-- what is a snapshot is read
+pub snapshot-read : (bs : List ℕ) → isSnapshot bs ≡ true → (s : State) × (decode full bs ≡ some s)
+unfolding isSnapshot isSome
+snapshot-read bs h = go (decode full bs) refl h
+  where
+    go : (o : Option State) → decode full bs ≡ o → isSome o ≡ true → (s : State) × (decode full bs ≡ some s)
+    go none e k = clash k refl
+    go (some s) e k = (s, e)
+
+-- what is none is not
+pub snapshot-none : (bs : List ℕ) → isSnapshot bs ≡ false → decode full bs ≡ none
+unfolding isSnapshot isSome
+snapshot-none bs h = go (decode full bs) refl h
+  where
+    go : (o : Option State) → decode full bs ≡ o → isSome o ≡ false → decode full bs ≡ none
+    go none e k = e
+    go (some s) e k = clash refl k

@@ -1,12 +1,12 @@
 -- Laws of snapshots in lent bytes: the lengths of levels and stores, and the snapshot of a well-formed store. Assumes nothing.
-use Prim.Native.Nat.{ℕ, _+_, _*_, _≤_, _<_, min}
+use Prim.Native.Nat.{ℕ, _-_, _+_, _*_, _≤_, _<_, min}
 use mathlib.Core.Path.{_≡_, refl, sym, ap, _∙_}
 use mathlib.Core.Bool.{true, false, _&&_}
 use mathlib.Core.List.{List, [], _∷_, _++_, map, map-append, map-map, List·Memᴰ as In}
 use native.Mathlib.Omega.{arith}
 use borrow.Author.Tests.{lt-ltb, le-ltb}
 use lib.ListN.{length, getD, take, drop, length-append, length-map, List·getD-map}
-use lib.Seq.{slice, length-take-le, take-all, getD-take}
+use lib.Seq.{slice, length-take-le, take-all, getD-take, take-at}
 use Rattle.lemmas.specs.Lists.{all, sort, join, sum, upFrom}
 use Rattle.lemmas.specs.ListLaws.{and-left, and-right, both, sort-in, sort-length, getD-in, upFrom-in}
 use Rattle.lemmas.specs.Little.{bytes, bytes-length}
@@ -288,3 +288,9 @@ module _ (s : Store) (q : length (s .pointers) ≡ levelCount) (h : wellStore s 
       let b = all wellPointer (s .pointers) in
       let c = wellLevels (s .files) (s .counts) in
       and-right (a && b) c (sym (store.well-is s q) ∙ h)
+
+-- bytes that were written at the start of room of their own are copied to the start of the output
+pub copied : (d own own′ out out′ : List ℕ) (n : ℕ) → length d ≤ length own → own′ ≡ put own 0 d → n ≡ length d → out′ ≡ put out 0 (take (n - 0) own′) → out′ ≡ d ++ drop (length d) out
+copied d own own′ out out′ n h e f g =
+    let part : take (n - 0) own′ ≡ d = ap (take (n - 0)) (e ∙ put-front own d) ∙ take-at d (drop (length d) own) (n - 0) (omega (arith, f)) in
+    g ∙ ap (put out 0) part ∙ put-front out d

@@ -10,9 +10,9 @@ use Rattle.model.specs.File.{full}
 use Rattle.model.specs.DifferenceBytes as model
 use Rattle.model.specs.DifferenceBytes.{longestList}
 use Rattle.snapshot_read.specs.Reading.{isSnapshot}
-use Rattle.snapshot_write.specs.WritingLaws.{said-refused, said-gives}
+use Rattle.snapshot_write.specs.WritingLaws.{said-refused, said-gives, copied}
 use Rattle.difference_scan.specs.Listing.{listOf}
-use Rattle.difference.specs.CallLaws.{no-left, no-right, list-most, list-short, list-given, copied}
+use Rattle.difference.specs.CallLaws.{no-left, no-right, list-most, list-short, list-given}
 use Rattle.difference.proofs.differing.Statement.{statement}
 use Rattle.difference.proofs.differing.Tie as tie
 

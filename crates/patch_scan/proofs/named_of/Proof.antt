@@ -1,30 +1,31 @@
+-- `named_of` meets its contract. Assumes nothing.
 use borrow.Author.Needs.{needs}
+use lib.ListN.{drop}
+use Rattle.patch_scan.specs.ListedLaws.{pointer-named, file-named}
 use Rattle.patch_scan.proofs.named_of.Statement.{statement}
 use Rattle.patch_scan.proofs.named_of.Tie as tie
-use Rattle.patch_scan.proofs.named_of.Reads as reads
-use Rattle.patch_scan.proofs.named_of.Lts as lts
-use Rattle.snapshot_parse.proofs.after.Reads as after-reads
-use Rattle.snapshot_parse.proofs.get_number.Reads as get-number-reads
 
--- src/lib.rt:45:9
 get-number-requires : tie.Need-get-number-requires
 get-number-requires c κs = search needs
 
--- src/lib.rt:45:9
 returns : tie.Need-returns
-returns c = ?
+returns c =
+    let i = c .before in
+    let a = i .before .before .args in
+    pointer-named (a .pointer) (c .get-number .result) (drop (a .at) (a .src .now)) (i .if1 .taken) (c .get-number .ensures)
 
--- src/lib.rt:47:9
 after-requires : tie.Need-after-requires
 after-requires c κs = search needs
 
--- src/lib.rt:48:5
 get-number-requires-2 : tie.Need-get-number-requires-2
 get-number-requires-2 c κs = search needs
 
--- src/lib.rt:40:1
 returns-2 : tie.Need-returns-2
-returns-2 c = ?
+returns-2 c =
+    let s = c .before in
+    let i = s .before in
+    let a = i .before .before .args in
+    file-named (a .pointer) (a .src .now) (a .at) (s .after .result) (c .get-number2 .result) (i .if1 .left) (s .after .ensures .1) (c .get-number2 .ensures)
 
 pub named-of-spec : {M : Type 1} → statement M
 named-of-spec =

@@ -1,37 +1,41 @@
+-- `next_over` meets its contract. Assumes nothing.
 use borrow.Author.Needs.{needs}
+use lib.ListN.{drop}
+use Rattle.patch_scan.specs.ListedLaws.{over-read}
 use Rattle.patch_scan.proofs.next_over.Statement.{statement}
 use Rattle.patch_scan.proofs.next_over.Tie as tie
-use Rattle.patch_scan.proofs.next_over.Reads as reads
-use Rattle.patch_scan.proofs.next_over.Lts as lts
-use Rattle.difference_scan.proofs.kind_by.Reads as kind-by-reads
-use Rattle.difference_scan.proofs.part_end.Reads as part-end-reads
-use Rattle.difference_scan.proofs.rise_of.Reads as rise-of-reads
-use Rattle.patch_scan.proofs.listed_end.Reads as listed-end-reads
-use Rattle.patch_scan.proofs.named_of.Reads as named-of-reads
 
--- src/lib.rt:77:9
 rise-of-requires : tie.Need-rise-of-requires
 rise-of-requires c κs = search needs
 
--- src/lib.rt:78:9
 named-of-requires : tie.Need-named-of-requires
 named-of-requires c κs = search needs
 
--- src/lib.rt:79:9
 part-end-requires : tie.Need-part-end-requires
 part-end-requires c κs = search needs
 
--- src/lib.rt:80:9
 listed-end-requires : tie.Need-listed-end-requires
 listed-end-requires c κs = search needs
 
--- src/lib.rt:81:9
 kind-by-requires : tie.Need-kind-by-requires
 kind-by-requires c κs = search needs
 
--- src/lib.rt:73:1
 returns : tie.Need-returns
-returns c = ?
+returns c =
+    let f = c .before in
+    let e = f .before in
+    let y = e .before in
+    let x = y .before in
+    let a = x .before .before .before .args in
+    let l = e .part-end .ensures in
+    let r = f .listed-end .ensures in (
+      over-read (a .pointer) (a .p .lefts) (x .rise-of .result) (a .p .rights) (y .named-of .result) (c .kind-by .result) (drop (a .p .left) (a .left .now)) (drop (a .p .right) (a .list .now)) (x .rise-of .ensures)
+          (y .named-of .ensures) (c .kind-by .ensures),
+      l .0,
+      l .1,
+      r .0,
+      r .1,
+    )
 
 pub next-over-spec : {M : Type 1} → statement M
 next-over-spec =

@@ -1,52 +1,66 @@
+-- `run_long` meets its contract. The loop's invariant: those counted, and those that count of the rest, are all that count. Assumes nothing.
+use Prim.Native.Nat.{_+_, _-_, _≤_}
+use mathlib.Core.Path.{_≡_, sym, _∙_}
+use native.Mathlib.Omega.{arith}
+use lib.ListN.{length, drop}
+use Rattle.patch_scan.specs.Listed.{runLong}
+use Rattle.patch_scan.specs.ListedLaws.{run-begins, level-read, run-on, run-stops, run-over}
 use Rattle.patch_scan.proofs.run_long.Statement.{statement}
 use Rattle.patch_scan.proofs.run_long.Tie as tie
-use Rattle.patch_scan.proofs.run_long.Reads as reads
-use Rattle.patch_scan.proofs.run_long.Lts as lts
-use Rattle.patch_scan.proofs.listed_end.Reads as listed-end-reads
-use Rattle.snapshot_parse.proofs.after.Reads as after-reads
-use Rattle.snapshot_parse.proofs.get_number.Reads as get-number-reads
 
 abbrev Inv-loop : tie.InvT-loop
-Inv-loop list at n level next₀ i₀ next i = ?
+Inv-loop list at n level next₀ i₀ next i =
+    (i ≤ n) × (next ≤ length list) × (i + runLong level (n - i) (drop next list) ≡ runLong level n (drop at list))
 
 abbrev μ-loop : tie.MeasureT-loop
-μ-loop list at n level next₀ i₀ next i = ?
+μ-loop list at n level next₀ i₀ next i = n - i
 
--- src/lib.rt:96:5
 loop-holds : tie.Need-loop-holds Inv-loop μ-loop
-loop-holds c = ?
+loop-holds c =
+    let s = c .before in
+    let a = s .args in
+    (omega arith, s .pre, run-begins (a .level) (a .n) (drop (a .at) (a .list .now)))
 
--- src/lib.rt:97:13
 after-requires : tie.Need-after-requires Inv-loop μ-loop
-after-requires c κs = ?
+after-requires c κs = c .before .loop .inv .1
 
--- src/lib.rt:98:13
 get-number-requires : tie.Need-get-number-requires Inv-loop μ-loop
-get-number-requires c κs = ?
+get-number-requires c κs = (c .after .ensures .1 .within, omega arith)
 
--- src/lib.rt:100:13
 returns : tie.Need-returns Inv-loop μ-loop
-returns c = ?
+returns c =
+    let g = c .before in
+    let s = g .before in
+    let l = s .before .before in
+    let a = l .before .before .args in
+    let e = level-read (a .list .now) (l .loop .next) (s .after .result) (g .get-number .result) (s .after .ensures .1) (g .get-number .ensures) in
+    run-stops (a .list .now) (a .level) (a .n) (l .loop .i) (l .loop .next) (omega arith) (λ q. c .if1 .taken (e ∙ q)) ∙ l .loop .inv .2
 
--- src/lib.rt:102:9
 listed-end-requires : tie.Need-listed-end-requires Inv-loop μ-loop
-listed-end-requires c κs = ?
+listed-end-requires c κs = c .before .before .before .before .loop .inv .1
 
--- src/lib.rt:103:9
 add-i : tie.Need-add-i Inv-loop μ-loop
-add-i c = ?
+add-i c = omega arith
 
--- src/lib.rt:96:5
 loop-less : tie.Need-loop-less Inv-loop μ-loop
-loop-less c = ?
+loop-less c = omega arith
 
--- src/lib.rt:96:5
 loop-again : tie.Need-loop-again Inv-loop μ-loop
-loop-again c = ?
+loop-again c =
+    let j = c .before in
+    let g = j .before in
+    let s = g .before in
+    let l = s .before .before in
+    let a = l .before .before .args in
+    let t = c .listed-end .ensures .1 in
+    let e = level-read (a .list .now) (l .loop .next) (s .after .result) (g .get-number .result) (s .after .ensures .1) (g .get-number .ensures) in
+    (omega arith, t .within, run-on (a .list .now) (a .level) (a .n) (l .loop .i) (l .loop .next) (c .listed-end .result) (omega arith) (sym e ∙ j .if1 .left) t ∙ l .loop .inv .2)
 
--- src/lib.rt:90:1
 returns-2 : tie.Need-returns-2 Inv-loop μ-loop
-returns-2 c = ?
+returns-2 c =
+    let l = c .before in
+    let a = l .before .before .args in
+    run-over (a .list .now) (a .level) (a .n) (l .loop .i) (l .loop .next) (l .loop .inv .0) (omega arith) ∙ l .loop .inv .2
 
 pub run-long-spec : {M : Type 1} → statement M
 run-long-spec =

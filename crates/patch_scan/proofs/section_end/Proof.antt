@@ -1,48 +1,57 @@
+-- `section_end` meets its contract. The loop's invariant: after the entries that are left comes what comes after all. Assumes nothing.
+use Prim.Native.Nat.{_≤_}
+use mathlib.Core.Path.{_≡_, _∙_}
+use native.Mathlib.Omega.{arith}
+use borrow.Author.Needs.{needs}
+use lib.ListN.{length, drop}
+use Rattle.model.specs.Snapshot.{countLong}
+use Rattle.snapshot_parse.specs.Parsing.{numberIn}
+use Rattle.patch_scan.specs.Listed.{afterEach}
+use Rattle.patch_scan.specs.ListedLaws.{each-begins, each-passed, each-over}
 use Rattle.patch_scan.proofs.section_end.Statement.{statement}
 use Rattle.patch_scan.proofs.section_end.Tie as tie
-use Rattle.patch_scan.proofs.section_end.Reads as reads
-use Rattle.patch_scan.proofs.section_end.Lts as lts
-use Rattle.patch_scan.proofs.listed_end.Reads as listed-end-reads
-use Rattle.snapshot_parse.proofs.after.Reads as after-reads
-use Rattle.snapshot_parse.proofs.get_number.Reads as get-number-reads
 
 abbrev Inv-loop : tie.InvT-loop
-Inv-loop list at pointer n₀ next₀ n next = ?
+Inv-loop list at pointer n₀ next₀ n next =
+    (next ≤ length list) × (afterEach pointer n (drop next list) ≡ afterEach pointer (numberIn countLong (drop at list)) (drop countLong (drop at list)))
 
 abbrev μ-loop : tie.MeasureT-loop
-μ-loop list at pointer n₀ next₀ n next = ?
+μ-loop list at pointer n₀ next₀ n next = n
 
--- src/lib.rt:113:9
 get-number-requires : tie.Need-get-number-requires Inv-loop μ-loop
-get-number-requires c κs = ?
+get-number-requires c κs = search needs
 
--- src/lib.rt:114:9
 after-requires : tie.Need-after-requires Inv-loop μ-loop
-after-requires c κs = ?
+after-requires c κs = search needs
 
--- src/lib.rt:115:5
 loop-holds : tie.Need-loop-holds Inv-loop μ-loop
-loop-holds c = ?
+loop-holds c =
+    let g = c .before in
+    let a = g .before .before .args in
+    let e = c .after .ensures .1 in
+    (e .within, each-begins (a .pointer) (a .list .now) (a .at) (g .get-number .result) (c .after .result) (g .get-number .ensures) e)
 
--- src/lib.rt:116:9
 listed-end-requires : tie.Need-listed-end-requires Inv-loop μ-loop
-listed-end-requires c κs = ?
+listed-end-requires c κs = omega arith
 
--- src/lib.rt:117:9
 sub-n : tie.Need-sub-n Inv-loop μ-loop
-sub-n c = ?
+sub-n c = omega arith
 
--- src/lib.rt:115:5
 loop-less : tie.Need-loop-less Inv-loop μ-loop
-loop-less c = ?
+loop-less c = omega arith
 
--- src/lib.rt:115:5
 loop-again : tie.Need-loop-again Inv-loop μ-loop
-loop-again c = ?
+loop-again c =
+    let l = c .before .before in
+    let a = l .before .before .before .before .args in
+    let e = c .listed-end .ensures .1 in
+    (e .within, each-passed (a .pointer) (a .list .now) (l .loop .n) (l .loop .next) (c .listed-end .result) (omega arith) e ∙ l .loop .inv .1)
 
--- src/lib.rt:109:1
 returns : tie.Need-returns Inv-loop μ-loop
-returns c = ?
+returns c =
+    let l = c .before in
+    let a = l .before .before .before .before .args in
+    record { within = l .loop .inv .0; rest = each-over (a .pointer) (l .loop .n) (drop (l .loop .next) (a .list .now)) (omega arith) ∙ l .loop .inv .1 }
 
 pub section-end-spec : {M : Type 1} → statement M
 section-end-spec =

@@ -1,0 +1,3 @@
+pub mod PieceLaws
+pub mod CounterLaws
+pub mod LevelLaws
