@@ -11,7 +11,7 @@ use script_parts::Parts;
 
 // The commands, one line each: the name, the group, the letter within the group, the kinds of the words, then the help text.
 // A kind with `*` after it stands for any number of words, one with `?` for one word or none; `.` is no word.
-const COMMANDS: [u8; 2293] =
+const COMMANDS: [u8; 2525] =
     *b"new mn . -> ok: a fresh store, no pick, fresh memories; the maximum file size stays\n\
 maxsize mm M M -> ok: the maximum file size that pick and range pass on, 2097152 at first\n\
 echo pe T* TEXT -> TEXT\n\
@@ -41,10 +41,12 @@ getrange ag L L -> the smallest and the largest key of the level's files, or non
 snapshot ax . -> the snapshot's bytes in hex\n\
 load cl H HEX -> ok: the store is what the bytes hold\n\
 keep wk A a/b -> ok: the store's snapshot is kept under the letter, as $a or $b; it outlives new\n\
-diff dd BB HEX HEX -> what differs, left and right: same, or entries: <,L,N only left; >,L,N,SIZE,SMALLEST,LARGEST only right; ~ and the same: both, the right's; p,L,KEY; c,NAME,N\n\
+diff dd BB HEX HEX -> left, right: same, or <,L,N only the left has it; >,L,N,SIZE,SMALLEST,LARGEST only the right; ~,L,N,SIZE,SMALLEST,LARGEST both, as the right has it; p,L,KEY and c,NAME,N the right's; HEX is bytes, $a or $b\n\
 differences dl BB HEX HEX -> left, right: the bytes of the list of what differs, in hex\n\
-save ws G NAME -> ok: the store's snapshot is in that file, whole or not at all; NAME is one word\n\
-open oo G NAME -> ok: the store is what that file holds; NAME is one word\n\
+patch dp BB HEX HEX -> left, right: the bytes that the left gives after that list is applied, in hex\n\
+apply da BB HEX HEX -> left, list: the bytes that the list makes of the left, in hex\n\
+save ws G NAME -> ok: the file holds the store's snapshot, whole or not at all; NAME is one word\n\
+open oo G NAME -> ok: the store is what the file holds; NAME is one word\n\
 help ph T? or help NAME -> the commands' names; how that one is written and what it answers\n";
 
 // The items of an edit, one line each, in the same form.

@@ -8,9 +8,13 @@ use store::Store;
 // The maximum file size before a script names one.
 const MAXIMUM: u64 = 2097152;
 
-// Prints the first bytes as a line.
+// Prints the first bytes as a line. Says so where they leave no room for its end: then the answer may be cut.
 fn print(out: &mut [u8], at: usize) {
     let end = script_lines::put_byte(out, at, b'\n');
+    if end <= at {
+        io::write_all(1, b"bad answer: longer than the room for it\n");
+        return;
+    }
     if end <= out.len() {
         io::write_all(1, &out[0..end]);
     }
@@ -189,13 +193,7 @@ fn front_of(out: &mut [u8], line: &[u8], count: usize) -> usize
 }
 
 // Answers the line of so many bytes.
-fn take(
-    out: &mut [u8],
-    kept: &mut [u8],
-    m: Machine,
-    line: &[u8],
-    count: usize,
-) -> Machine {
+fn take(out: &mut [u8], kept: &mut [u8], m: Machine, line: &[u8], count: usize) -> Machine {
     let n = front_of(out, line, count);
     answer(out, kept, m, &line[0..n])
 }

@@ -1,4 +1,4 @@
-// The shell's commands on two snapshots: keep one under a letter, tell what differs between two, the list of that.
+// The shell's commands on two snapshots: keep one under a letter, tell what differs between two, the list of that, and what a list makes of one.
 mod slots;
 
 pub use slots::Kept;
@@ -18,6 +18,8 @@ struct Room {}
 impl Room {
     // The longest snapshot, and one byte more: a word of more bytes is cut there, and is no snapshot either.
     const SNAPSHOT: usize = Snapshot::LONGEST + 1;
+    // The longest list, and one byte more.
+    const LIST: usize = List::LONGEST + 1;
 }
 
 // Room for a word that may be a snapshot.
@@ -26,8 +28,8 @@ fn snapshot_room() -> [u8; Room::SNAPSHOT] {
 }
 
 // Room for a list.
-fn list_room() -> [u8; List::LONGEST] {
-    [0u8; List::LONGEST]
+fn list_room() -> [u8; Room::LIST] {
+    [0u8; Room::LIST]
 }
 
 // ---- answers
@@ -44,22 +46,6 @@ fn put_done(out: &mut [u8], w: Written) -> usize {
 fn put_bytes(out: &mut [u8], room: &[u8], w: Written) -> usize {
     match w {
         Written::Bytes(n) => shell_reply::put_front(out, room, n),
-        Written::Refused(n) => script_lines::put_refused(out, 0, n),
-    }
-}
-
-// The entries of a list of n bytes.
-fn put_front(out: &mut [u8], list: &[u8], n: usize) -> usize {
-    if list.len() < n {
-        return 0;
-    }
-    shell_list::put_list(out, &list[0..n])
-}
-
-// The entries of the list that a call wrote, or the refusal.
-fn put_entries(out: &mut [u8], list: &[u8], w: Written) -> usize {
-    match w {
-        Written::Bytes(n) => put_front(out, list, n),
         Written::Refused(n) => script_lines::put_refused(out, 0, n),
     }
 }
@@ -81,18 +67,53 @@ pub fn keep(out: &mut [u8], s: Store, line: &[u8], kept: &mut [u8]) -> usize
     script_lines::within(out, at)
 }
 
-// What differs between the two snapshots of a line: `l` the list's bytes, any other letter its entries.
-fn put_compared(out: &mut [u8], kept: &[u8], line: &[u8], which: u8) -> usize {
+// Writes the list of what differs between the two snapshots of a line to lent bytes.
+fn compare(kept: &[u8], line: &[u8], list: &mut [u8]) -> Written {
     let mut left = snapshot_room();
     let mut right = snapshot_room();
-    let mut list = list_room();
     let n = slots::lay_word(kept, line, word(line, 1), &mut left);
     let m = slots::lay_word(kept, line, word(line, 2), &mut right);
-    let w = difference::differing(&left[0..n], &right[0..m], &mut list);
+    difference::differing(&left[0..n], &right[0..m], list)
+}
+
+// What a list makes of the left snapshot of a line.
+fn put_patched(out: &mut [u8], kept: &[u8], line: &[u8], list: &[u8]) -> usize {
+    let mut left = snapshot_room();
+    let mut made = snapshot_room();
+    let n = slots::lay_word(kept, line, word(line, 1), &mut left);
+    let w = patch::patching(&left[0..n], list, &mut made);
+    put_bytes(out, &made, w)
+}
+
+// What a list of n bytes says: `p` what it makes of the left, any other letter its entries.
+fn put_told(out: &mut [u8], kept: &[u8], line: &[u8], list: &[u8], n: usize, which: u8) -> usize {
+    if list.len() < n {
+        return 0;
+    }
+    if which == b'p' {
+        return put_patched(out, kept, line, &list[0..n]);
+    }
+    shell_list::put_list(out, &list[0..n])
+}
+
+// The answer of a command on the list of what differs between the two snapshots of a line: `l` its bytes, or what it says.
+fn put_compared(out: &mut [u8], kept: &[u8], line: &[u8], which: u8) -> usize {
+    let mut list = list_room();
+    let w = compare(kept, line, &mut list);
     if which == b'l' {
         return put_bytes(out, &list, w);
     }
-    put_entries(out, &list, w)
+    match w {
+        Written::Bytes(n) => put_told(out, kept, line, &list, n, which),
+        Written::Refused(n) => script_lines::put_refused(out, 0, n),
+    }
+}
+
+// What the list of a line makes of its snapshot.
+fn put_applied(out: &mut [u8], kept: &[u8], line: &[u8]) -> usize {
+    let mut list = list_room();
+    let n = slots::lay_word(kept, line, word(line, 2), &mut list);
+    put_patched(out, kept, line, &list[0..n])
 }
 
 // What is wrong with a word that names a letter under which nothing is kept. Words are counted from 1.
@@ -116,6 +137,9 @@ fn put(out: &mut [u8], kept: &[u8], line: &[u8], which: u8) -> usize {
     let b = word(line, 2);
     if slots::is_empty(kept, line, b) {
         return put_empty(out, line, b, 3);
+    }
+    if which == b'a' {
+        return put_applied(out, kept, line);
     }
     put_compared(out, kept, line, which)
 }

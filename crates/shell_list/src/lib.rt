@@ -153,7 +153,7 @@ fn put_section(out: &mut [u8], told: Told, list: &[u8], section: u8) -> Told
 }
 
 // The entries of a list in order, a blank between two; `same` for none. The longest answer is that of a version of files that only the left has, a version of
-// others on the right, each pointer and each counter: 58,611 bytes. It ends within the bytes.
+// others on the right, each pointer and each counter: 58,577 bytes. It ends within the bytes.
 pub fn put_list(out: &mut [u8], list: &[u8]) -> usize
     ensures { λ r. ⌜ r ≤ length (now (out .exit)) ⌝ }
 {
