@@ -3,11 +3,13 @@
 
   compare/fixed.py RUST [COMMANDS]
 
-The cases of compare/cases.txt and stores.py, then scripts of gen.py, at least COMMANDS commands in all (3420 if not given). Each answer is the Rust's; where document 01
-differs the answer is document 01's, and a comment before the command says why. Nothing of the shell's own answers goes in."""
+The cases of compare/cases.txt and stores.py, then scripts of gen.py, at least COMMANDS commands in all (3420 if not given), then the cases of differ.py, to which the Rust has
+no answer. Each other answer is the Rust's; where document 01 differs the answer is document 01's, and a comment before the command says why. Nothing of the shell's own
+answers goes in."""
 import pathlib
 import sys
 
+from differ import rows as request_rows
 from gen import Gen, Rust
 from stores import rows as long_rows
 
@@ -40,15 +42,16 @@ def main():
     while len(rows) < wanted:
         rows += Gen(seed, rust, 60).script()
         seed += 1
+    rows += request_rows()
     told = []
     for command, answer, mark in rows:
         if mark:
-            told.append('# document 01: %s' % mark)
+            told.append('# document %s: %s' % ('02' if mark.startswith('request') else '01', mark))
         told.append(command)
     (SHELL / 'stdin').write_text('\n'.join(told) + '\n')
     (SHELL / 'stdout').write_text('\n'.join(a for _, a, _ in rows) + '\n')
     marked = sum(1 for r in rows if r[2])
-    print('%d commands: %d answers are the Rust\'s, %d are document 01\'s' % (len(rows), len(rows) - marked, marked))
+    print('%d commands: %d answers are the Rust\'s, %d are the documents\'' % (len(rows), len(rows) - marked, marked))
 
 
 if __name__ == '__main__':

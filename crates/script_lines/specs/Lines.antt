@@ -3,7 +3,7 @@ use Prim.Native.Nat.{ℕ, zero, suc, _+_, _/_, _%_, min}
 use mathlib.Core.Path.{_≡_}
 use mathlib.Core.Bool.{cond}
 use mathlib.Core.List.{List, [], _∷_, _++_, map}
-use lib.Dec.{ltb}
+use lib.Dec.{eqb, ltb}
 use lib.ListN.{length}
 use lib.Seq.{sets}
 use Rattle.io.specs.Digits.{digits, glyph}
@@ -21,6 +21,10 @@ placeAfter n at m = cond (ltb at n) (min (at + m) n) at
 pub record Laid (before : List ℕ) (at : ℕ) (text after : List ℕ) (r : ℕ) : Type 0 where
   pub bytes : after ≡ laidAt before at text
   pub place : r ≡ placeAfter (length before) at (length text)
+
+-- a blank, unless the line begins at this place
+unfoldable pub gapText : ℕ → List ℕ
+gapText at = cond (eqb at 0) [] (32 ∷ [])
 
 -- a number of at most k digits in decimal, no zero in front
 unfoldable pub decimalIn : ℕ → ℕ → List ℕ

@@ -5,7 +5,7 @@ ghost use Prim.Native.Nat.{_<_, min};
 ghost use lib.ListN.{length};
 ghost use Rattle.io.specs.Digits.{glyph};
 ghost use Rattle.keys.specs.Key.{keyOf, userOf};
-ghost use Rattle.script_lines.specs.Lines.{Laid, decimal, bits, hexText, refusedText};
+ghost use Rattle.script_lines.specs.Lines.{Laid, gapText, decimal, bits, hexText, refusedText};
 use keys::Key;
 use keys::UserKey;
 
@@ -18,6 +18,16 @@ pub fn put_byte(out: &mut [u8], at: usize, b: u8) -> usize
         return at + 1;
     }
     at
+}
+
+// A blank, unless the line begins here.
+pub fn put_gap(out: &mut [u8], at: usize) -> usize
+    ensures { λ r. ⌜ Laid (now (out .entry)) at (gapText at) (now (out .exit)) r ⌝ }
+{
+    if at == 0 {
+        return at;
+    }
+    put_byte(out, at, b' ')
 }
 
 // A text.

@@ -5,11 +5,11 @@ use mathlib.Core.Logic.{_⊎_, inl, inr}
 use mathlib.Core.Bool.{false}
 use mathlib.Core.List.{List}
 use Rattle.script_table.specs.declared.Fault.{Fault}
-use Rattle.script_table.specs.Faults.{ofNumbers, fitsOther, fits, Named}
+use Rattle.script_table.specs.Faults.{ofNumbers, fitsSnapshots, fitsOther, fits, Named}
 
 -- of the kinds W, X and Y no word is
 pub none-is : (line : List ℕ) (from to : ℕ) → (fits line from to 87 ≡ false) × (fits line from to 88 ≡ false) × (fits line from to 89 ≡ false)
-unfolding fits ofNumbers fitsOther
+unfolding fits ofNumbers fitsOther fitsSnapshots
 none-is line from to = (refl, refl, refl)
 
 -- a fault that names the same run and the same kind

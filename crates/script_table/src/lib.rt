@@ -1,17 +1,17 @@
 // The table of the script's commands: which command a line is, what its words must be, which word is wrong, and help.
 ghost use mathlib.Core.Path.{_≡_};
 ghost use mathlib.Core.Bool.{cond};
-ghost use Prim.Native.Nat.{_≤_, _+_};
+ghost use Prim.Native.Nat.{_≤_, _+_, _-_};
 ghost use lib.ListN.{length};
 ghost use lib.Dec.{ltb};
 ghost use Rattle.script_lines.specs.Lines.{Laid};
 ghost use Rattle.script_words.specs.Words.{wordOf};
-ghost use Rattle.script_table.specs.Faults.{counterName, bytesWord, ofNumbers, fitsOther, fits, Named};
+ghost use Rattle.script_table.specs.Faults.{counterName, bytesWord, heldWord, letterWord, nameLong, ofNumbers, fitsSnapshots, fitsOther, fits, Named};
 use script_parts::Parts;
 
 // The commands, one line each: the name, the group, the letter within the group, the kinds of the words, then the help text.
 // A kind with `*` after it stands for any number of words, one with `?` for one word or none; `.` is no word.
-const COMMANDS: [u8; 1756] =
+const COMMANDS: [u8; 2525] =
     *b"new mn . -> ok: a fresh store, no pick, fresh memories; the maximum file size stays\n\
 maxsize mm M M -> ok: the maximum file size that pick and range pass on, 2097152 at first\n\
 echo pe T* TEXT -> TEXT\n\
@@ -40,6 +40,13 @@ set cs CN manifest/seq/prev N -> ok\n\
 getrange ag L L -> the smallest and the largest key of the level's files, or none\n\
 snapshot ax . -> the snapshot's bytes in hex\n\
 load cl H HEX -> ok: the store is what the bytes hold\n\
+keep wk A a/b -> ok: the store's snapshot is kept under the letter, as $a or $b; it outlives new\n\
+diff dd BB HEX HEX -> left, right: same, or <,L,N only the left has it; >,L,N,SIZE,SMALLEST,LARGEST only the right; ~,L,N,SIZE,SMALLEST,LARGEST both, as the right has it; p,L,KEY and c,NAME,N the right's; HEX is bytes, $a or $b\n\
+differences dl BB HEX HEX -> left, right: the bytes of the list of what differs, in hex\n\
+patch dp BB HEX HEX -> left, right: the bytes that the left gives after that list is applied, in hex\n\
+apply da BB HEX HEX -> left, list: the bytes that the list makes of the left, in hex\n\
+save ws G NAME -> ok: the file holds the store's snapshot, whole or not at all; NAME is one word\n\
+open oo G NAME -> ok: the store is what the file holds; NAME is one word\n\
 help ph T? or help NAME -> the commands' names; how that one is written and what it answers\n";
 
 // The items of an edit, one line each, in the same form.
@@ -49,13 +56,17 @@ a ia LNSKK\n\
 l il N\n";
 
 // What a word of each kind must be.
-const KINDS: [u8; 477] = *b"L a level, 0 to 18446744073709551615\n\
+const KINDS: [u8; 630] = *b"L a level, 0 to 18446744073709551615\n\
 N a number, 0 to 18446744073709551615\n\
 S a size, 0 to 18446744073709551615\n\
 M a maximum file size, 0 to 18446744073709551615\n\
 K an internal key: text@SEQ, text@SEQd, hex digits or -\n\
 U a user key: =text, hex digits or -\n\
 H bytes: hex digits, two each, or -\n\
+B bytes: hex digits, two each, or -, or $a or $b for what keep kept\n\
+Q after keep of that letter only\n\
+A a letter: a or b\n\
+G a file's name, 1 to 4088 bytes\n\
 C a counter: manifest, seq or prev\n\
 W a command's name\n\
 Y p, d, a or l: see help edit\n\
@@ -91,6 +102,9 @@ struct Entry {
 
 // The longest word that an answer shows whole.
 const SHOWN: usize = 40;
+
+// The longest name of a file: a path has at most 4095 bytes, and a file that is being written has seven more in its name.
+const NAME: usize = 4088;
 
 // ---- entries of a table
 
@@ -220,6 +234,55 @@ fn is_of_numbers(kind: u8) -> bool
     false
 }
 
+// Whether a word is bytes, or names what is kept under a letter.
+fn is_held(line: &[u8], from: usize, to: usize) -> bool
+    ensures { λ r. ⌜ r ≡ heldWord (wordOf (now (line .entry)) from to) ⌝ }
+{
+    if script_words::is_word(line, from, to, b"$a") {
+        return true;
+    }
+    if script_words::is_word(line, from, to, b"$b") {
+        return true;
+    }
+    is_bytes(line, from, to)
+}
+
+// Whether a word is a letter under which a snapshot is kept.
+fn is_letter(line: &[u8], from: usize, to: usize) -> bool
+    ensures { λ r. ⌜ r ≡ letterWord (wordOf (now (line .entry)) from to) ⌝ }
+{
+    if script_words::is_word(line, from, to, b"a") {
+        return true;
+    }
+    script_words::is_word(line, from, to, b"b")
+}
+
+// Whether a word can be a file's name: it has bytes, and a path has room for it and for seven more.
+fn is_name(from: usize, to: usize) -> bool
+    ensures { λ r. ⌜ r ≡ nameLong (to - from) ⌝ }
+{
+    if to <= from {
+        return false;
+    }
+    to - from <= NAME
+}
+
+// Whether a word is of a kind of snapshots: bytes or what is kept, a letter, a file's name. Of any other kind none is.
+fn is_of_snapshots(line: &[u8], from: usize, to: usize, kind: u8) -> bool
+    ensures { λ r. ⌜ r ≡ fitsSnapshots (wordOf (now (line .entry)) from to) kind ⌝ }
+{
+    if kind == b'B' {
+        return is_held(line, from, to);
+    }
+    if kind == b'A' {
+        return is_letter(line, from, to);
+    }
+    if kind == b'G' {
+        return is_name(from, to);
+    }
+    false
+}
+
 // Whether a word is of this kind, for the kinds that are neither keys nor numbers. Two kinds take every word. The marks that end a list of kinds take none.
 fn is_of_other(line: &[u8], from: usize, to: usize, kind: u8) -> bool
     ensures { λ r. ⌜ r ≡ fitsOther (wordOf (now (line .entry)) from to) kind ⌝ }
@@ -236,7 +299,7 @@ fn is_of_other(line: &[u8], from: usize, to: usize, kind: u8) -> bool
     if kind == b'I' {
         return true;
     }
-    false
+    is_of_snapshots(line, from, to, kind)
 }
 
 // Whether a word is of a kind.
@@ -554,7 +617,7 @@ fn put_names(out: &mut [u8], table: &[u8]) -> usize {
     while at < n {
         let end = script_words::place_of(table, at, n, b'\n');
         let name = script_words::place_of(table, at, end, b' ');
-        to = put_gap(out, to);
+        to = script_lines::put_gap(out, to);
         to = put_run(out, to, table, at, name);
         if n <= end {
             return to;
@@ -562,14 +625,6 @@ fn put_names(out: &mut [u8], table: &[u8]) -> usize {
         at = end + 1;
     }
     to
-}
-
-// A blank, unless the line begins here.
-fn put_gap(out: &mut [u8], at: usize) -> usize {
-    if at == 0 {
-        return at;
-    }
-    script_lines::put_byte(out, at, b' ')
 }
 
 // How a command is written and what it answers: its name, then the help text of its entry.

@@ -1,2 +1,3 @@
 pub mod Words
 pub mod WordLaws
+pub mod HexLaws

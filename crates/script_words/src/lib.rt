@@ -220,6 +220,26 @@ pub fn hex_byte(line: &[u8], at: usize) -> u8
     high * 16 + low
 }
 
+// Writes the bytes of hex digits to lent bytes, as far as there is room. Returns how many.
+pub fn lay_hex(line: &[u8], from: usize, to: usize, out: &mut [u8]) -> usize
+    ensures { λ r. ⌜ (r ≤ length (now (out .exit))) × (take r (now (out .exit)) ≡ take (length (now (out .exit))) (hexBytes (now (line .entry)) from to)) ⌝ }
+{
+    let mut i: usize = 0;
+    let mut at = from;
+    while at < to {
+        if to - at < 2 {
+            return i;
+        }
+        if out.len() <= i {
+            return i;
+        }
+        out[i] = hex_byte(line, at);
+        at += 2;
+        i += 1;
+    }
+    i
+}
+
 // How many bytes a run has.
 fn run_length(from: usize, to: usize) -> usize
     ensures { λ r. ⌜ r ≡ to - from ⌝ }

@@ -8,9 +8,13 @@ use store::Store;
 // The maximum file size before a script names one.
 const MAXIMUM: u64 = 2097152;
 
-// Prints the first bytes as a line.
+// Prints the first bytes as a line. Says so where they leave no room for its end: then the answer may be cut.
 fn print(out: &mut [u8], at: usize) {
     let end = script_lines::put_byte(out, at, b'\n');
+    if end <= at {
+        io::write_all(1, b"bad answer: longer than the room for it\n");
+        return;
+    }
     if end <= out.len() {
         io::write_all(1, &out[0..end]);
     }
@@ -59,6 +63,16 @@ fn ask(out: &mut [u8], s: Store, line: &[u8], group: u8, which: u8) {
     print(out, at)
 }
 
+// Writes the store's snapshot: keeps it under a letter, or saves it to a file.
+fn write(out: &mut [u8], kept: &mut [u8], s: Store, line: &[u8], which: u8) {
+    if which == b'k' {
+        let at = shell_difference::keep(out, s, line, kept);
+        return print(out, at);
+    }
+    let at = shell_file::save(out, s, line);
+    print(out, at)
+}
+
 // A fresh store, or the maximum file size that picks take from here on.
 fn settle(out: &mut [u8], m: Machine, line: &[u8], which: u8) -> Machine {
     let at = script_lines::put(out, 0, b"ok");
@@ -93,7 +107,7 @@ fn no_command() -> Command {
 }
 
 // Reads a line, and answers it where that needs no store.
-fn begin(out: &mut [u8], line: &[u8]) -> Command {
+fn begin(out: &mut [u8], kept: &[u8], line: &[u8]) -> Command {
     if is_silent(line) {
         return no_command();
     }
@@ -105,6 +119,11 @@ fn begin(out: &mut [u8], line: &[u8]) -> Command {
     }
     if r.group == b'p' {
         answer_plain(out, line, r.which);
+        return no_command();
+    }
+    if r.group == b'd' {
+        let at = shell_difference::put_answer(out, kept, line, r.which);
+        print(out, at);
         return no_command();
     }
     Command {
@@ -121,12 +140,25 @@ fn turned(out: &mut [u8], m: Machine, line: &[u8], group: u8, which: u8) -> Mach
     if group == b'k' {
         return shell_machine::pick_next(out, m, line, which);
     }
+    if group == b'o' {
+        return shell_machine::open(out, m, line);
+    }
     shell_machine::follow(out, m, line, which)
 }
 
+// Answers a command that changes the machine.
+fn turn(out: &mut [u8], m: Machine, line: &[u8], group: u8, which: u8) -> Machine {
+    if group == b'm' {
+        return settle(out, m, line, which);
+    }
+    let after = turned(out, m, line, group, which);
+    print(out, after.at);
+    after
+}
+
 // Answers a line.
-fn answer(out: &mut [u8], m: Machine, line: &[u8]) -> Machine {
-    let c = begin(out, line);
+fn answer(out: &mut [u8], kept: &mut [u8], m: Machine, line: &[u8]) -> Machine {
+    let c = begin(out, kept, line);
     if c.group == 0 {
         return m;
     }
@@ -134,12 +166,11 @@ fn answer(out: &mut [u8], m: Machine, line: &[u8]) -> Machine {
         ask(out, m.store, line, c.group, c.which);
         return m;
     }
-    if c.group == b'm' {
-        return settle(out, m, line, c.which);
+    if c.group == b'w' {
+        write(out, kept, m.store, line, c.which);
+        return m;
     }
-    let after = turned(out, m, line, c.group, c.which);
-    print(out, after.at);
-    after
+    turn(out, m, line, c.group, c.which)
 }
 
 // How many bytes of a line count: without a carriage return at its end. Says so if the line is too long, and then counts none.
@@ -162,9 +193,9 @@ fn front_of(out: &mut [u8], line: &[u8], count: usize) -> usize
 }
 
 // Answers the line of so many bytes.
-fn take(out: &mut [u8], m: Machine, line: &[u8], count: usize) -> Machine {
+fn take(out: &mut [u8], kept: &mut [u8], m: Machine, line: &[u8], count: usize) -> Machine {
     let n = front_of(out, line, count);
-    answer(out, m, &line[0..n])
+    answer(out, kept, m, &line[0..n])
 }
 
 // One byte more of a line. If there is no room, only the count grows, up to one past the room.
@@ -182,6 +213,7 @@ fn push(line: &mut [u8], n: usize, b: u8) -> usize {
 // Reads standard input block after block and answers line after line.
 fn main() {
     let mut m = shell_machine::fresh(MAXIMUM);
+    let mut kept = shell_difference::nothing();
     let mut out = io::large_buffer();
     let mut line = io::large_buffer();
     let mut n: usize = 0;
@@ -192,7 +224,7 @@ fn main() {
         let count = io::count(got, &block);
         if count == 0 {
             if 0 < n {
-                m = take(&mut out, m, &line, n);
+                m = take(&mut out, &mut kept, m, &line, n);
             }
             return;
         }
@@ -200,7 +232,7 @@ fn main() {
         while i < count {
             let b = block[i];
             if b == b'\n' {
-                m = take(&mut out, m, &line, n);
+                m = take(&mut out, &mut kept, m, &line, n);
                 n = 0;
             } else {
                 n = push(&mut line, n, b);

@@ -69,21 +69,13 @@ fn put_score(out: &mut [u8], s: Store) -> usize {
     }
 }
 
-// The first n bytes in hex.
-fn put_front(out: &mut [u8], room: &[u8], n: usize) -> usize {
-    if room.len() < n {
-        return 0;
-    }
-    script_lines::put_hex(out, 0, &room[0..n])
-}
-
 // The snapshot in hex, or the refusal.
 fn put_snapshot(out: &mut [u8], s: Store) -> usize {
     let mut room = io::large_buffer();
     let w = snapshot_write::write(s, &mut room);
     match w {
         Written::Refused(n) => script_lines::put_refused(out, 0, n),
-        Written::Bytes(n) => put_front(out, &room, n),
+        Written::Bytes(n) => shell_reply::put_front(out, &room, n),
     }
 }
 

@@ -1,45 +1,19 @@
--- Hex digits laid as bytes: what the loop says at each turn and at its end; what words read as. Assumes nothing.
-use Prim.Native.Nat.{ℕ, _+_, _-_, _*_, _/_, _≤_, _<_}
-use mathlib.Core.Path.{_≡_, refl, sym, ap, _∙_}
+-- What the words of a line read as. Assumes nothing.
+use Prim.Native.Nat.{ℕ}
+use mathlib.Core.Path.{_≡_, ap, _∙_}
 use mathlib.Core.List.{List}
-use native.Mathlib.Omega.{arith}
-use native.Mathlib.Numerals.{add-one}
-use lib.ListN.{length, getD, take, set}
-use lib.Seq.{take-suc, take-suc-set, take-all}
+use lib.ListN.{length, getD, take}
 use Rattle.keys.specs.declared.FileNumber.{FileNumber}
 use Rattle.store.specs.declared.Store.{Store}
 use Rattle.store.specs.declared.Stored.{Stored}
 use Rattle.script_words.specs.declared.NumberWord.{NumberWord}
-use Rattle.script_words.specs.Words.{wordOf, numberWord, hexByte, hexBytes}
+use Rattle.script_words.specs.Words.{wordOf, numberWord, hexBytes}
 use Rattle.script_parts.specs.declared.Parts.{Parts}
 use Rattle.script_parts.specs.declared.Run.{Run}
 use Rattle.script_parts.specs.Parts.{wordsOf, runOf}
 use Rattle.shell_edit.specs.declared.Changed.{Changed}
 use Rattle.shell_edit.specs.Changes.{toldBy, countedBy, loadedBy, readOf, setBy, countBy, wordAt, numberAt, bytesIn}
-use Rattle.script_words.specs.WordLaws.{hexBytes-length, hexBytes-at}
 
-module _ (line : List ℕ) (from to : ℕ) where
-  -- one byte more
-  pub hex-turn : (out : List ℕ) (i at b : ℕ) → at ≡ from + 2 * i → i < (to - from) / 2 → i < length out → b ≡ hexByte (getD line at 0) (getD line (at + 1) 0)
-      → take i out ≡ take i (hexBytes line from to) → take (i + 1) (set out i b) ≡ take (i + 1) (hexBytes line from to)
-  hex-turn out i at b p h g q e =
-      let n : i < length (hexBytes line from to) = omega (arith, hexBytes-length line from to) in
-      let byte : b ≡ getD (hexBytes line from to) i 0 = q ∙ ap (λ (x : ℕ). hexByte (getD line x 0) (getD line (x + 1) 0)) p ∙ sym (hexBytes-at line from to i h) in
-      rw (add-one i, take-suc-set out i b g, take-suc (hexBytes line from to) i 0 n, e, byte)
-
-  -- no byte is left
-  pub hex-over : (out : List ℕ) (i : ℕ) → (to - from) / 2 ≤ i → i ≤ length out → take i out ≡ take i (hexBytes line from to)
-      → take i out ≡ take (length out) (hexBytes line from to)
-  hex-over out i h g e =
-      let n : length (hexBytes line from to) ≤ i = omega (arith, hexBytes-length line from to) in
-      e ∙ take-all i (hexBytes line from to) n ∙ sym (take-all (length out) (hexBytes line from to) (omega arith))
-
-  -- no room is left
-  pub hex-full : (out : List ℕ) (i : ℕ) → length out ≤ i → i ≤ length out → take i out ≡ take i (hexBytes line from to)
-      → take i out ≡ take (length out) (hexBytes line from to)
-  hex-full out i h g e = let q : i ≡ length out = omega arith in e ∙ ap (λ (n : ℕ). take n (hexBytes line from to)) q
-
--- ---- what the words of a line read as
 module _ (line : List ℕ) (w : Parts) (e : w ≡ wordsOf line) where
   -- a number
   pub number-is : (i : ℕ) (n : NumberWord) → n ≡ numberWord (wordOf line (runOf line w i .from) (runOf line w i .to)) → n .value ≡ numberAt line i

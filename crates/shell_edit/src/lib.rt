@@ -2,7 +2,6 @@
 ghost use mathlib.Core.Path.{_≡_};
 ghost use Prim.Native.Nat.{_≤_};
 ghost use lib.ListN.{length, getD, take};
-ghost use Rattle.script_words.specs.Words.{hexBytes};
 ghost use Rattle.shell_edit.specs.Changes.{toldBy, nextBy, countedBy, numberBy, handedBy, loadedBy, readOf, setBy, countBy, wordAt, numberAt, bytesIn, changedBy};
 use answers::Outcome;
 use counters::Counters;
@@ -77,26 +76,6 @@ fn handed(h: Handed) -> Changed
     }
 }
 
-// Writes the bytes of hex digits to lent bytes, as far as there is room. Returns how many.
-fn lay_hex(line: &[u8], from: usize, to: usize, out: &mut [u8]) -> usize
-    ensures { λ r. ⌜ (r ≤ length (now (out .exit))) × (take r (now (out .exit)) ≡ take (length (now (out .exit))) (hexBytes (now (line .entry)) from to)) ⌝ }
-{
-    let mut i: usize = 0;
-    let mut at = from;
-    while at < to {
-        if to - at < 2 {
-            return i;
-        }
-        if out.len() <= i {
-            return i;
-        }
-        out[i] = script_words::hex_byte(line, at);
-        at += 2;
-        i += 1;
-    }
-    i
-}
-
 // What the first n bytes read as.
 fn read_front(room: &[u8], n: usize) -> Stored
     requires { ⌜ n ≤ length (now room) ⌝ }
@@ -110,12 +89,12 @@ fn read_hex(line: &[u8], from: usize, to: usize) -> Stored
     ensures { λ r. ⌜ r ≡ readOf (bytesIn (now (line .entry)) from to) ⌝ }
 {
     let mut room = io::large_buffer();
-    let n = lay_hex(line, from, to, &mut room);
+    let n = script_words::lay_hex(line, from, to, &mut room);
     read_front(&room, n)
 }
 
 // The store after a read: the one before it on a refusal.
-fn loaded(s: Store, r: Stored) -> Changed
+pub fn loaded(s: Store, r: Stored) -> Changed
     ensures { λ x. ⌜ x ≡ loadedBy s r ⌝ }
 {
     let o = r.outcome;

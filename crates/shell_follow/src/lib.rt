@@ -35,14 +35,6 @@ pub fn begun(maximum: u64, has: bool, c: Picked) -> Picks
     }
 }
 
-// A blank, unless the answer begins here.
-fn put_gap(out: &mut [u8], at: usize) -> usize {
-    if at == 0 {
-        return at;
-    }
-    script_lines::put_byte(out, at, b' ')
-}
-
 // `y` or `n`.
 fn put_yes(out: &mut [u8], at: usize, b: bool) -> usize {
     if b {
@@ -74,7 +66,7 @@ fn put_cut(out: &mut [u8], start: usize, cut: bool, m: Cutter) -> usize {
 
 // A cutter's answer, or the refusal.
 fn put_stop(out: &mut [u8], start: usize, o: Outcome, cut: bool, m: Cutter) -> usize {
-    let at = put_gap(out, start);
+    let at = script_lines::put_gap(out, start);
     match o {
         Outcome::Refused(n) => script_lines::put_refused(out, at, n),
         Outcome::Done => put_cut(out, at, cut, m),
@@ -136,7 +128,7 @@ struct Based {
 
 // Whether a user key is at its base level, or the refusal.
 fn put_base(out: &mut [u8], start: usize, o: Outcome, base: bool) -> usize {
-    let at = put_gap(out, start);
+    let at = script_lines::put_gap(out, start);
     match o {
         Outcome::Refused(n) => script_lines::put_refused(out, at, n),
         Outcome::Done => put_yes(out, at, base),

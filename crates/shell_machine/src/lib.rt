@@ -4,6 +4,7 @@ ghost use mathlib.Core.Bool.{false};
 ghost use Prim.Native.Nat.{_≤_};
 ghost use lib.ListN.{length};
 ghost use Rattle.shell_edit.specs.Changes.{changedBy};
+ghost use Rattle.shell_file.specs.Opening.{Left};
 ghost use Rattle.shell_follow.specs.Following.{Stays};
 ghost use Rattle.shell_machine.specs.Machine.{Fresh, leftBy};
 ghost use Rattle.shell_machine.specs.Picking.{rangePick, pickedBy};
@@ -67,6 +68,20 @@ pub fn change(out: &mut [u8], m: Machine, line: &[u8], which: u8) -> Machine
         store: s,
         picks: p,
         at: at,
+    }
+}
+
+// Reads the store from a file.
+pub fn open(out: &mut [u8], m: Machine, line: &[u8]) -> Machine
+    ensures { λ r. ⌜ (r .at ≤ length (now (out .exit))) × Left (m .store) (r .store) × (r .picks ≡ m .picks) ⌝ }
+{
+    let o = shell_file::open(out, m.store, line);
+    let s = o.store;
+    let p = m.picks;
+    Machine {
+        store: s,
+        picks: p,
+        at: o.at,
     }
 }
 

@@ -3,12 +3,12 @@ use Prim.Native.Nat.{ℕ, zero, suc, _+_, _-_}
 use mathlib.Core.Bool.{Bool, cond, _&&_}
 use mathlib.Core.List.{List, [], _∷_, _++_, map}
 use lib.Dec.{eqb, leb}
-use lib.ListN.{getD, take, drop}
+use lib.ListN.{length, getD, take, drop}
 use Rattle.model.specs.File.{maxFiles}
 use Rattle.answers.specs.declared.Outcome.{Outcome}
 use Rattle.answers.specs.declared.Outcome.the-variants.{Done, Refused}
 use Rattle.records.specs.declared.FileRecord.{FileRecord}
-use Rattle.script_lines.specs.Lines.{decimal, bits, refusedText}
+use Rattle.script_lines.specs.Lines.{decimal, bits, hexText, refusedText}
 use Rattle.shell_reply.specs.declared.Said.{Said}
 use Rattle.shell_reply.specs.declared.Said.the-variants.{Agreed, Nothing, Mark, Number, Next, Denied}
 
@@ -55,6 +55,10 @@ saidBy (Refused n) = Denied n
 -- the next file number
 unfoldable pub nextText : ℕ → List ℕ
 nextText n = (110 ∷ 101 ∷ 120 ∷ 116 ∷ 61 ∷ []) ++ decimal n
+
+-- the first n bytes in hex; nothing if there are not so many
+unfoldable pub frontText : ℕ → List ℕ → List ℕ
+frontText n bytes = cond (leb n (length bytes)) (hexText (take n bytes)) []
 
 -- a short answer
 abbrev pub saidText : Said → List ℕ

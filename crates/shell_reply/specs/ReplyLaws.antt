@@ -12,9 +12,9 @@ use borrow.Author.Tests.{le-leb, lt-leb}
 use Rattle.model.specs.File.{maxFiles}
 use Rattle.lemmas.specs.Slices.{put, drop-next, run-rest, put-whole}
 use Rattle.records.specs.declared.FileRecord.{FileRecord}
-use Rattle.script_lines.specs.Lines.{Laid, decimal}
+use Rattle.script_lines.specs.Lines.{Laid, decimal, hexText}
 use Rattle.script_lines.specs.LineLaws.{laid-none, laid-then}
-use Rattle.shell_reply.specs.Replies.{markText, nextPlace, formText, moreText, moreTexts, numbersText, numberOf, filesText}
+use Rattle.shell_reply.specs.Replies.{markText, nextPlace, formText, moreText, moreTexts, numbersText, numberOf, filesText, frontText}
 
 -- laying what is left after a place ends the whole
 abbrev pub Ends : List ℕ → ℕ → List ℕ → List ℕ → ℕ → List ℕ → Type 0
@@ -110,3 +110,15 @@ pub number-past : (ns : List ℕ) (k : ℕ) → length ns ≤ k → getD ns k 0 
 number-past [] k h = refl
 number-past (n ∷ ns) zero h = absurd (omega arith)
 number-past (n ∷ ns) (suc k) h = number-past ns k (omega arith)
+
+-- ---- the first bytes
+module _ (n : ℕ) (bytes : List ℕ) where
+  -- there are so many
+  pub front-in : n ≤ length bytes → frontText n bytes ≡ hexText (take (n - 0) bytes)
+  unfolding frontText
+  front-in h = let e : n - 0 ≡ n = omega arith in rw (le-leb n (length bytes) h, e)
+
+  -- there are not
+  pub front-out : length bytes < n → frontText n bytes ≡ []
+  unfolding frontText
+  front-out h = rw (lt-leb n (length bytes) h)

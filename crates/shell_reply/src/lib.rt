@@ -4,7 +4,7 @@ ghost use mathlib.Core.List.{map};
 ghost use Prim.Native.Nat.{_-_};
 ghost use lib.ListN.{getD, take, drop};
 ghost use Rattle.script_lines.specs.Lines.{Laid};
-ghost use Rattle.shell_reply.specs.Replies.{markText, nextPlace, formText, numberOf, numbersText, moreText, moreTexts, filesText, nextText, saidText, saidBy};
+ghost use Rattle.shell_reply.specs.Replies.{markText, nextPlace, formText, numberOf, numbersText, moreText, moreTexts, filesText, nextText, frontText, saidText, saidBy};
 use answers::Outcome;
 use records::FileRecord;
 use records::Version;
@@ -105,6 +105,16 @@ pub fn put_said(out: &mut [u8], r: Said) -> usize
         Said::Next(n) => put_next(out, n),
         Said::Denied(n) => script_lines::put_refused(out, 0, n),
     }
+}
+
+// The first n bytes in hex. Nothing if there are not so many.
+pub fn put_front(out: &mut [u8], bytes: &[u8], n: usize) -> usize
+    ensures { λ r. ⌜ Laid (now (out .entry)) 0 (frontText n (now (bytes .entry))) (now (out .exit)) r ⌝ }
+{
+    if bytes.len() < n {
+        return 0;
+    }
+    script_lines::put_hex(out, 0, &bytes[0..n])
 }
 
 // A comma and a number.

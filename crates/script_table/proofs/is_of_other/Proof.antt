@@ -28,11 +28,14 @@ returns-4 : tie.Need-returns-4
 unfolding fitsOther
 returns-4 c = simp (ne-eqb _ _ (c .before .before .before .if1 .left), ne-eqb _ _ (c .before .before .if2 .left), ne-eqb _ _ (c .before .if3 .left), eq-eqb _ _ (c .if4 .taken))
 
+is-of-snapshots-requires : tie.Need-is-of-snapshots-requires
+is-of-snapshots-requires c κs = search needs
+
 returns-5 : tie.Need-returns-5
 unfolding fitsOther
-returns-5 c = simp (ne-eqb _ _ (c .before .before .before .if1 .left), ne-eqb _ _ (c .before .before .if2 .left), ne-eqb _ _ (c .before .if3 .left), ne-eqb _ _ (c .if4 .left))
+returns-5 c = simp (ne-eqb _ _ (c .before .before .before .before .if1 .left), ne-eqb _ _ (c .before .before .before .if2 .left), ne-eqb _ _ (c .before .before .if3 .left), ne-eqb _ _ (c .before .if4 .left)) (c .is-of-snapshots .ensures)
 
 pub is-of-other-spec : {M : Type 1} → statement M
 is-of-other-spec =
     tie.close
-    (tie.spec is-bytes-requires returns is-counter-requires returns-2 returns-3 returns-4 returns-5)
+    (tie.spec is-bytes-requires returns is-counter-requires returns-2 returns-3 returns-4 is-of-snapshots-requires returns-5)

@@ -1,13 +1,13 @@
--- `shell_edit::lay_hex` meets its contract. The loop's invariant: the first i bytes are those of the digits before the place. Assumes nothing.
+-- `script_words::lay_hex` meets its contract. The loop's invariant: the first i bytes are those of the digits before the place. Assumes nothing.
 use Prim.Native.Nat.{_+_, _-_, _*_, _≤_}
 use mathlib.Core.Path.{_≡_, refl, _∙_}
 use native.Mathlib.Omega.{arith}
 use lib.ListN.{length, take, length-set}
 use Rattle.script_words.specs.Words.{hexBytes}
-use Rattle.shell_edit.specs.ChangeLaws.{hex-turn, hex-over, hex-full}
+use Rattle.script_words.specs.HexLaws.{hex-turn, hex-over, hex-full}
 use borrow.Author.Needs.{needs}
-use Rattle.shell_edit.proofs.lay_hex.Statement.{statement}
-use Rattle.shell_edit.proofs.lay_hex.Tie as tie
+use Rattle.script_words.proofs.lay_hex.Statement.{statement}
+use Rattle.script_words.proofs.lay_hex.Tie as tie
 
 abbrev Inv-loop : tie.InvT-loop
 Inv-loop line from to out₀ i₀ at₀ out i at = (at ≡ from + 2 * i) × (i ≤ length out) × (length out ≡ length out₀) × (take i out ≡ take i (hexBytes line from to))
