@@ -188,17 +188,11 @@ questions_on_patch() {
     printf 'new\nkeep b\necho [fresh]\napply $b %s\n' "$right"
 }
 
-# Becomes the program that answers. GROMEDULT_SHELL names another program to ask in the shell's stead, for trials.
-become_shell() {
-    [ -z "${GROMEDULT_SHELL-}" ] || exec "$GROMEDULT_SHELL"
-    become
-}
-
 # Sets answers to what the shell answers to the questions that a function prints. $1 the function, then its words.
 # From here on bytes are bytes, and order is theirs, for awk too.
 ask() {
     export LC_ALL=C
-    answers=$({ "$@" && echo 'echo [end]'; } | become_shell)
+    answers=$({ "$@" && echo 'echo [end]'; } | become)
     case $answers in
     *'[end]') ;;
     *) fail "the program shell ended before it had answered" 2 ;;
