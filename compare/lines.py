@@ -9,7 +9,7 @@ import pathlib
 import re
 import sys
 
-LAWS = {('model', name) for name in ['Formed', 'ByNumber', 'Reading', 'Demand3', 'Examples']}
+LAWS = {('model', name) for name in ['Formed', 'ByNumber', 'Reading', 'Demand3', 'Examples', 'DifferenceExamples']}
 ROOT = pathlib.Path(__file__).resolve().parent.parent / 'crates'
 
 
