@@ -23,3 +23,4 @@ pub mod Once
 pub mod Rising
 pub mod CompareLaws
 pub mod OverlayLaws
+pub mod Runs

@@ -44,6 +44,18 @@ module _ {A : Type 0} where
       go ih true f = let q : y ≡ x = cc in (cc, here (sym q))
       go ih false f = let r = ih (cc) in (r .0, there (r .1))
 
+  -- if none passes nothing is found
+  pub find-absent : (p : A → Bool) (xs : List A) → ((x : A) → In x xs → p x ≡ false) → find p xs ≡ none
+  unfolding find
+  find-absent p [] h = refl
+  find-absent p (x ∷ xs) h = rw (h x (here refl)) (find-absent p xs (λ y m. h y (there m)))
+
+  -- items that do not pass are passed over
+  pub find-skip : (p : A → Bool) (xs ys : List A) → ((x : A) → In x xs → p x ≡ false) → find p (xs ++ ys) ≡ find p ys
+  unfolding find
+  find-skip p [] ys h = refl
+  find-skip p (x ∷ xs) ys h = rw (h x (here refl)) (find-skip p xs ys (λ y m. h y (there m)))
+
   -- where `find` finds nothing no item passes
   pub find-none : (p : A → Bool) (xs : List A) (x : A) → find p xs ≡ none → In x xs → p x ≡ false
   unfolding find
@@ -695,6 +707,12 @@ module _ {A : Type 0} where
       go : keep p (xs ++ ys) ≡ keep p xs ++ keep p ys → (t : Bool) → push t x (keep p (xs ++ ys)) ≡ push t x (keep p xs) ++ keep p ys
       go ih true = ap (λ (r : List A). x ∷ r) ih
       go ih false = ih
+
+  -- if none passes none is kept
+  pub keep-none : (p : A → Bool) (xs : List A) → ((x : A) → In x xs → p x ≡ false) → keep p xs ≡ []
+  unfolding keep push
+  keep-none p [] h = refl
+  keep-none p (x ∷ xs) h = rw (h x (here refl)) (keep-none p xs (λ y m. h y (there m)))
 
   -- if all pass all are kept
   pub keep-all : (p : A → Bool) (xs : List A) → ((x : A) → In x xs → p x ≡ true) → keep p xs ≡ xs

@@ -15,6 +15,7 @@ use Rattle.model.specs.Edit.{Deletion, Addition, Edit, emptyEdit, added,
 use Rattle.model.specs.Counters.{counted, counterBeyond, counter}
 use Rattle.model.specs.Score.{lower, byteLimit, score, scored, hasGreatest, levelToCompact, due, reported}
 use Rattle.model.specs.Range.{between, overlaps, inside, earlier, later, stretch, sticksOut, widenBy, widen, overlapping, isLowest, isHighest, lowKey, highKey, rangeOf}
+use Rattle.model.specs.Completion.{olderThan, follows, following, completed, completedAt, inputs, spans}
 use Rattle.model.specs.Pick.{firstFile, startFile, sizeInputs, upTo, manualInputs, bySize, Picked, Pick, grandOf, grows, grownFirst, complete, badMaximum, sizePick, manualPick, goodLevel, goodPicked, isManual, trivial, inputDeletions}
 use Rattle.model.specs.Question.{findFile, passed, findIndex, Cutter, freshCutter, Cut, cutStep, holds, isBase, notBefore, candidate, lookup, descend, deepest, memtableLevel, liveFiles}
 use Rattle.model.specs.Snapshot.{byNumber, writeKey, writeFile, entries, writeEntry, section, writeLevel, fiveOf, encode, onward, _>>=_, give, times, readBytes, readNumber, readKey, readFile, readSection, readLevel, readPointer, placed, fromFive, readState, sameBytes, accept, decode}
@@ -22,7 +23,7 @@ use Rattle.model.specs.Calls.{compareKeys, parseKey, newNumber, lentList
 
 -- unfolding this name unfolds all definitions, so that examples compute
 computes : Bool
-unfolding byFirst lexb number bytes push keep any all find insert sort chain join isEmpty member distinct sum upFrom orElse Option·toList user trailer sequence kind key goodUser goodKey parts userBefore rank before stands _⇒_ firstOf onAnswer lent full level pointer seeks total numbers allFiles bySmallest goodFile inOrder noCollision levelwise goodPointer goodCounters goodFiles wellFormed fresh setPointer setCounters emptyEdit added deletes adds leftDeleted survivors survivorsFrom pointed logged applied tooMany badLog pointerRefusals deletionRefusals additionRefusals entryRefusals resultRefusals edit counted counterBeyond counter lower byteLimit score scored hasGreatest levelToCompact due between overlaps inside earlier later stretch sticksOut widenBy widen overlapping isLowest isHighest lowKey highKey rangeOf firstFile startFile sizeInputs upTo manualInputs grandOf grows grownFirst complete badMaximum sizePick manualPick goodLevel goodPicked isManual trivial inputDeletions findFile passed findIndex freshCutter cutStep holds isBase notBefore candidate lookup descend deepest memtableLevel liveFiles byNumber writeKey writeFile entries writeEntry section writeLevel fiveOf encode onward _>>=_ give times readBytes readNumber readKey readFile readSection readLevel readPointer placed fromFive readState sameBytes accept decode compareKeys parseKey newNumber lentList totalSize endsOf getRange findFileCall lookUp needsCompaction isTrivialMove deletionsOf counts-up-to goodCutter shouldStop goodMemory isBaseLevel memtable overlapInLevel overlappingInputs live write orBad read
+unfolding byFirst lexb number bytes push keep any all find insert sort chain join isEmpty member distinct sum upFrom orElse Option·toList user trailer sequence kind key goodUser goodKey parts userBefore rank before stands _⇒_ firstOf onAnswer lent full level pointer seeks total numbers allFiles bySmallest goodFile inOrder noCollision levelwise goodPointer goodCounters goodFiles wellFormed fresh setPointer setCounters emptyEdit added deletes adds leftDeleted survivors survivorsFrom pointed logged applied tooMany badLog pointerRefusals deletionRefusals additionRefusals entryRefusals resultRefusals edit counted counterBeyond counter lower byteLimit score scored hasGreatest levelToCompact due between overlaps inside earlier later stretch sticksOut widenBy widen overlapping isLowest isHighest lowKey highKey rangeOf olderThan follows following completed completedAt inputs spans firstFile startFile sizeInputs upTo manualInputs grandOf grows grownFirst complete badMaximum sizePick manualPick goodLevel goodPicked isManual trivial inputDeletions findFile passed findIndex freshCutter cutStep holds isBase notBefore candidate lookup descend deepest memtableLevel liveFiles byNumber writeKey writeFile entries writeEntry section writeLevel fiveOf encode onward _>>=_ give times readBytes readNumber readKey readFile readSection readLevel readPointer placed fromFive readState sameBytes accept decode compareKeys parseKey newNumber lentList totalSize endsOf getRange findFileCall lookUp needsCompaction isTrivialMove deletionsOf counts-up-to goodCutter shouldStop goodMemory isBaseLevel memtable overlapInLevel overlappingInputs live write orBad read
 computes = true
 
 -- the key of a one-letter user key, a sequence and type 1 (a value)
@@ -121,9 +122,9 @@ seen = record { seen = true; place = 0; count = 0 }
 abbrev four0 : List File
 four0 = file 1 1 (at a 9) (at d 9) ∷ file 2 1 (at c 9) (at h 9) ∷ file 3 1 (at g 9) (at k 9) ∷ file 4 1 (at x 9) (at z 9) ∷ []
 
--- E11: level 1 is due, and its pointer is at the last file's largest key
+-- E11: level 1 is due, and its pointer is at the last file's largest key. The files share no edge key
 abbrev pointed1 : State
-pointed1 = setPointer (with7 [] (file 1 10485760 (at a 9) (at b 5) ∷ f4′ ∷ []) []) 1 (at c 1)
+pointed1 = setPointer (with7 [] (file 1 10485760 (at a 9) (at b 5) ∷ file 2 1 (at c 9) (at d 5) ∷ []) []) 1 (at d 5)
 
 -- E1 to E12, each as the result of a public call. E12 is by the rule for allowed seeks
 pub record TableE : Type 0 where
@@ -156,6 +157,56 @@ table-e = record {
   e10 = refl;
   e11 = refl;
   e12 = (refl, refl);
+}
+
+-- ---- files that share an edge key
+-- the numbers of a pick's second inputs
+abbrev secondInputs : Pick → List ℕ
+secondInputs p = numbers (p .picked .second)
+
+-- level 1 is due: b@5 ends the first file, b@3 begins the second
+abbrev edge : State
+edge = with7 [] (file 1 10485760 (at a 9) (at b 5) ∷ f4′ ∷ file 3 1 (at d 9) (at d 5) ∷ []) []
+
+-- a chain: b@5, b@4..b@3, b@2..c@1, c@0..d@0
+abbrev chained : State
+chained = with7 [] (file 5 10485760 (at a 9) (at b 5) ∷ file 6 10 (at b 4) (at b 3) ∷ file 7 10 (at b 2) (at c 1) ∷ file 8 10 (at c 0) (at d 0) ∷ file 9 10 (at g 1) (at g 0) ∷ []) []
+
+-- level 0 is due; at level 1 c@3 ends one file and c@2 begins the next
+abbrev below : State
+below = with7 (file 1 1 (at a 9) (at b 5) ∷ file 2 1 (at a 9) (at b 5) ∷ file 3 1 (at a 9) (at b 5) ∷ file 4 1 (at a 9) (at b 5) ∷ []) (file 6 10 (at b 4) (at c 3) ∷ file 7 10 (at c 2) (at d 1) ∷ []) []
+
+-- growth from c..d to a..b and g..h, and with them h@8..k of n bytes that shares h
+abbrev wider : ℕ → State
+wider n = with7 [] (file 4 10 (at a 5) (at b 5) ∷ file 5 10 (at c 9) (at d 9) ∷ file 6 10 (at g 9) (at h 9) ∷ file 7 n (at h 8) (at k 9) ∷ []) (file 9 10 (at a 9) (at g 9) ∷ [])
+
+-- with completed lists the file that begins with b@3 goes down with the one that b@5 ends; the start file alone leaves it, and it has the older b in its range
+pub record Edges : Type 0 where
+  pub together : onAnswer firstInputs (sizePick full edge M) ≡ gives (1 ∷ 2 ∷ [])
+  pub pointed : onAnswer (λ (p : Pick). pointer (p .after) 1) (sizePick full edge M) ≡ gives (some (at c 1))
+  pub alone : numbers (Option·toList (startFile (pointer edge 1) (level edge 1))) ≡ 1 ∷ []
+  pub older : (spans f4′ (at b 3) ≡ true) × (olderThan (at b 3) (at b 5) ≡ true)
+  pub chain-of-four : onAnswer firstInputs (sizePick full chained M) ≡ gives (5 ∷ 6 ∷ 7 ∷ 8 ∷ [])
+  pub next-level : onAnswer secondInputs (sizePick full below M) ≡ gives (6 ∷ 7 ∷ [])
+  pub after-stop : onAnswer firstInputs (manualPick full (with7 [] (file 5 11 (at a 9) (at b 5) ∷ file 6 1 (at b 3) (at c 1) ∷ file 7 1 (at c 0) (at d 1) ∷ []) []) 10 1 (at a 1) (at a 1)) ≡ gives (5 ∷ 6 ∷ 7 ∷ [])
+  pub too-big : onAnswer firstInputs (manualPick full (wider 24999960) 1000000 1 (at c 1) (at c 1)) ≡ gives (5 ∷ [])
+  pub grown : onAnswer firstInputs (manualPick full (wider 24999959) 1000000 1 (at c 1) (at c 1)) ≡ gives (4 ∷ 5 ∷ 6 ∷ 7 ∷ [])
+  pub question : onAnswer numbers (overlappingInputs full edge 1 (at a 9) (at a 9) 256) ≡ gives (1 ∷ [])
+
+-- by computation
+pub edge-keys : Edges
+unfolding computes
+edge-keys = record {
+  together = refl;
+  pointed = refl;
+  alone = refl;
+  older = (refl, refl);
+  chain-of-four = refl;
+  next-level = refl;
+  after-stop = refl;
+  too-big = refl;
+  grown = refl;
+  question = refl;
 }
 
 -- the type is not weighed, and a proper prefix is first

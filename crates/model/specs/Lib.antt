@@ -5,6 +5,7 @@ pub mod Edit
 pub mod Counters
 pub mod Score
 pub mod Range
+pub mod Completion
 pub mod Pick
 pub mod Question
 pub mod Snapshot
@@ -20,8 +21,12 @@ pub mod CounterLaws
 pub mod RangeLaws
 pub mod Formed
 pub mod ScoreLaws
+pub mod LineLaws
+pub mod CompletionLaws
+pub mod PlaceLaws
 pub mod PickLaws
 pub mod PickedLaws
+pub mod EdgeLaws
 pub mod QuestionLaws
 pub mod SnapshotLaws
 pub mod ByNumber

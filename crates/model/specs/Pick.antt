@@ -13,6 +13,7 @@ use Rattle.model.specs.File.{Profile, File, State, level, pointer, total
 use Rattle.model.specs.Edit.{Deletion}
 use Rattle.model.specs.Score.{score, levelToCompact, due, reported}
 use Rattle.model.specs.Range.{Range, between, overlapping, highKey, rangeOf}
+use Rattle.model.specs.Completion.{completed, inputs}
 
 -- ---- first inputs
 -- the first file of a list, if any
@@ -25,20 +26,20 @@ unfoldable pub startFile : Option Key → List File → Option File
 startFile none fs = firstFile fs
 startFile (some k) fs = orElse (find (λ f. before k (f .largest)) fs) (firstFile fs)
 
--- the first inputs of a size pick: that file. At level 0 the files overlapping the widening of its range replace it
+-- the first inputs of a size pick: that file, completed. At level 0 the files overlapping the widening of its range replace it
 unfoldable pub sizeInputs : ℕ → Option Key → List File → List File
 sizeInputs zero ptr fs = overlapping 0 fs (rangeOf (Option·toList (startFile ptr fs)))
-sizeInputs (suc l) ptr fs = Option·toList (startFile ptr fs)
+sizeInputs (suc l) ptr fs = completed fs (Option·toList (startFile ptr fs))
 
 -- stops after the first file that brings the total, t so far, above m
 unfoldable pub upTo : ℕ → ℕ → List File → List File
 upTo m t [] = []
 upTo m t (f ∷ fs) = f ∷ cond (ltb m (t + f .size)) [] (upTo m (t + f .size) fs)
 
--- the first inputs of a manual pick: the files overlapping its range. Above level 0 it stops at the maximum file size m
+-- the first inputs of a manual pick: the files overlapping its range. Above level 0 it stops at the maximum file size m, and what it has is completed
 unfoldable pub manualInputs : ℕ → ℕ → List File → Range → List File
 manualInputs m zero fs r = overlapping 0 fs r
-manualInputs m (suc l) fs r = upTo m 0 (overlapping (suc l) fs r)
+manualInputs m (suc l) fs r = completed fs (upTo m 0 (overlapping (suc l) fs r))
 
 -- ---- the answer of a pick
 -- its cause: size with the reported score, or manual
@@ -65,22 +66,22 @@ unfoldable pub grandOf : Profile → State → ℕ → Range → List File
 grandOf p s l r = cond (ltb (l + 2) (p .levels)) (overlapping (l + 2) (level s (l + 2)) r) []
 
 -- growth is allowed: there are second inputs, the grown files are more in number, their bytes and the second inputs' together are below 25 m, and their own range
--- overlaps equally many files of level + 1
+-- gives equally many files of level + 1
 unfoldable pub grows : ℕ → List File → List File → List File → List File → Bool
 grows m first second grown again = not (isEmpty second) && ltb (length first) (length grown)
     && ltb (total grown + total second) (25 * m) && eqb (length again) (length second)
 
--- the level's files overlapping the joint range replace the first inputs where growth is allowed
+-- the level's files overlapping the joint range, completed, replace the first inputs where growth is allowed. Both lists that are tested are completed
 unfoldable pub grownFirst : State → ℕ → ℕ → List File → List File → List File
 grownFirst s m l first second =
-    let grown = overlapping l (level s l) (rangeOf (first ++ second)) in
-    let again = overlapping (suc l) (level s (suc l)) (rangeOf grown) in
+    let grown = inputs l (level s l) (rangeOf (first ++ second)) in
+    let again = inputs (suc l) (level s (suc l)) (rangeOf grown) in
     cond (grows m first second grown again) grown first
 
--- a pick from its first inputs: second inputs are those of level + 1 that overlap, and the level's pointer becomes the first inputs' largest key
+-- a pick from its first inputs: second inputs are those of level + 1 that overlap, completed, and the level's pointer becomes the first inputs' largest key
 unfoldable pub complete : Profile → State → ℕ → Cause → ℕ → List File → Pick
 complete p s m c l first =
-    let second = overlapping (suc l) (level s (suc l)) (rangeOf first) in
+    let second = inputs (suc l) (level s (suc l)) (rangeOf first) in
     let first′ = grownFirst s m l first second in
     record {
       picked = record { level = l; cause = c; maximum = m; first = first′; second = second; grand = grandOf p s l (rangeOf (first′ ++ second)) };

@@ -1,5 +1,5 @@
 use Prim.Native.Nat.{ℕ, zero, suc, _+_, _*_, _^_, _≤_, _<_}
-use mathlib.Core.Path.{_≡_, refl, sym, _∙_, subst}
+use mathlib.Core.Path.{_≡_, refl, sym, ap, _∙_, subst}
 use mathlib.Core.Logic.{_⊎_, inl, inr}
 use mathlib.Core.Bool.{Bool, cond, true, false, not, _&&_}
 use mathlib.Core.List.{List, [], _∷_, _++_, List·Memᴰ as In, List·Memᴰ·head as here, List·Memᴰ·tail as there, List·Memᴰ·not-nil as not-nil, List·Memᴰ·append-cases as append-cases, Memᴰ·append-left as in-left, Option·toList}
@@ -10,7 +10,8 @@ use lib.ListN.{length, length-set}
 use native.Mathlib.Omega.{arith}
 use Rattle.lemmas.specs.Order.{clash}
 use Rattle.lemmas.specs.Lists.{keep, find, isEmpty, sum}
-use Rattle.lemmas.specs.ListLaws.{and-left, and-right, find-some, keep-in, join-in, set-in, Sub, end, also, sub-none, sub-keep, sub-one, sub-trans, sub-in, keep-sub, sub-same, in-nonempty, longer-nonempty}
+use Rattle.lemmas.specs.ListLaws.{and-left, and-right, find-some, keep-in, join-in, set-in, Sub, sub-none, sub-keep, sub-in, sub-same, in-nonempty, longer-nonempty}
+use Rattle.lemmas.specs.Runs.{Run, run-none, run-one, run-front, run-sub}
 use Rattle.model.specs.Key.{Key, goodKey, before}
 use Rattle.model.specs.KeyLaws.{before-order, before-user}
 use Rattle.model.specs.Answer.{gives, _⇒_}
@@ -21,7 +22,10 @@ use Rattle.model.specs.Pick.{firstFile, startFile, sizeInputs, upTo, man
 use Rattle.model.specs.AnswerLaws.{firstOf-gives}
 use Rattle.model.specs.RangeLaws.{overlaps-says, overlaps-mono, widen-least, smallestOf, largestOf, low-fold, high-fold, lowest, highest}
 use Rattle.model.specs.Formed.{WF, formed-says, goodFile-says, goodFile-order}
+use Rattle.model.specs.Completion.{completed, completedAt, inputs}
 use Rattle.model.specs.ScoreLaws.{ten-pow}
+use Rattle.model.specs.LineLaws.{Line, level-line}
+use Rattle.model.specs.CompletionLaws.{completed-run, completed-contains, completed-empty, completed-more, overlapping-run, inputs-run}
 
 -- Laws of picks: what an accepted pick returns, that its inputs are files of their levels, and that it keeps a state well-formed. Assumes nothing.
 
@@ -105,15 +109,15 @@ pub stops-after : (m t : ℕ) (f : File) (fs : List File) → m < t + f .size �
 unfolding upTo
 stops-after m t f fs h = rw (lt-ltb m (t + f .size) h)
 
--- the files up to a total
-upTo-sub : (m t : ℕ) (fs : List File) → Sub (upTo m t fs) fs
+-- the files up to a total are a front
+upTo-front : (m t : ℕ) (fs : List File) → (rest : List File) × (fs ≡ upTo m t fs ++ rest)
 unfolding upTo
-upTo-sub m t [] = end
-upTo-sub m t (f ∷ fs) = also (go (upTo-sub m (t + f .size) fs) (ltb m (t + f .size)))
+upTo-front m t [] = ([], refl)
+upTo-front m t (f ∷ fs) = go (upTo-front m (t + f .size) fs) (ltb m (t + f .size))
   where
-    go : Sub (upTo m (t + f .size) fs) fs → (b : Bool) → Sub (cond b [] (upTo m (t + f .size) fs)) fs
-    go ih true = sub-none fs
-    go ih false = ih
+    go : (rest : List File) × (fs ≡ upTo m (t + f .size) fs ++ rest) → (b : Bool) → (rest : List File) × (f ∷ fs ≡ (f ∷ cond b [] (upTo m (t + f .size) fs)) ++ rest)
+    go ih true = (fs, refl)
+    go ih false = (ih .0, ap (λ (gs : List File). f ∷ gs) (ih .1))
 
 -- the first file of a list is in the list
 first-in : (fs : List File) (f : File) → firstFile fs ≡ some f → In f fs
@@ -131,40 +135,84 @@ start-in (some k) fs f e = go (find (λ h. before k (h .largest)) fs) refl e
     go none q r = first-in fs f r
     go (some h) q r = let s : h ≡ f = cc in subst (λ (x : File). In x fs) s (find-some (λ h. before k (h .largest)) fs h q .1)
 
--- the same as a list
-start-sub : (o : Option Key) (fs : List File) → Sub (Option·toList (startFile o fs)) fs
+-- as a run of one file
+start-run : (o : Option Key) (fs : List File) → Run fs (Option·toList (startFile o fs))
 unfolding Option·toList
-start-sub o fs = go (startFile o fs) refl
+start-run o fs = go (startFile o fs) refl
   where
-    go : (r : Option File) → startFile o fs ≡ r → Sub (Option·toList r) fs
-    go none e = sub-none fs
-    go (some f) e = sub-one f fs (start-in o fs f e)
+    go : (r : Option File) → startFile o fs ≡ r → Run fs (Option·toList r)
+    go none e = run-none fs
+    go (some f) e = run-one f fs (start-in o fs f e)
+
+-- ---- how an input list is formed
+-- at level 0 by the widening of some range, above it from a run of neighbours that is then completed
+abbrev pub FormedAt : ℕ → List File → List File → Type 0
+FormedAt zero fs xs = (r : Range) × (xs ≡ overlapping 0 fs r)
+FormedAt (suc l) fs xs = (ys : List File) × Run fs ys × (xs ≡ completed fs ys)
+
+-- what is asked of the level: above level 0 it stands in line
+abbrev pub InLine : ℕ → List File → Type 0
+InLine zero fs = Unit {0}
+InLine (suc l) fs = Line fs
+
+-- a level of a well-formed state does
+pub level-in-line : (p : Profile) (s : State) (l : ℕ) → WF p s → InLine l (level s l)
+level-in-line p s zero w = tt
+level-in-line p s (suc l) w = level-line p s l w
+
+-- an input list has files of its level, in order
+pub formed-sub : (l : ℕ) (fs xs : List File) → InLine l fs → FormedAt l fs xs → Sub xs fs
+formed-sub zero fs xs i h = subst (λ (zs : List File). Sub zs fs) (sym (h .1)) (overlapping-sub 0 fs (h .0))
+formed-sub (suc l) fs xs i h = subst (λ (zs : List File). Sub zs fs) (sym (h .2)) (run-sub (completed-run fs (h .0) i (h .1)))
+
+-- above level 0 it is a run of neighbours
+pub formed-run : (l : ℕ) (fs xs : List File) → Line fs → FormedAt (suc l) fs xs → Run fs xs
+formed-run l fs xs i h = subst (λ (zs : List File). Run fs zs) (sym (h .2)) (completed-run fs (h .0) i (h .1))
+
+-- the input list of a range
+pub inputs-formed : (l : ℕ) (fs : List File) (r : Range) → InLine l fs → FormedAt l fs (inputs l fs r)
+unfolding inputs completedAt
+inputs-formed zero fs r i = (r, refl)
+inputs-formed (suc l) fs r i = (overlapping (suc l) fs r, overlapping-run l fs r i, refl)
 
 -- the first inputs of a size pick
-pub size-sub : (l : ℕ) (o : Option Key) (fs : List File) → Sub (sizeInputs l o fs) fs
+pub size-formed : (l : ℕ) (o : Option Key) (fs : List File) → FormedAt l fs (sizeInputs l o fs)
 unfolding sizeInputs
-size-sub zero o fs = overlapping-sub 0 fs (rangeOf (Option·toList (startFile o fs)))
-size-sub (suc l) o fs = start-sub o fs
+size-formed zero o fs = (rangeOf (Option·toList (startFile o fs)), refl)
+size-formed (suc l) o fs = (Option·toList (startFile o fs), start-run o fs, refl)
 
 -- the first inputs of a manual pick
-pub manual-sub : (m l : ℕ) (fs : List File) (r : Range) → Sub (manualInputs m l fs r) fs
+pub manual-formed : (m l : ℕ) (fs : List File) (r : Range) → InLine l fs → FormedAt l fs (manualInputs m l fs r)
 unfolding manualInputs
-manual-sub m zero fs r = overlapping-sub 0 fs r
-manual-sub m (suc l) fs r = sub-trans (upTo-sub m 0 (overlapping (suc l) fs r)) (overlapping-sub (suc l) fs r)
+manual-formed m zero fs r i = (r, refl)
+manual-formed m (suc l) fs r i =
+    let found = overlapping (suc l) fs r in
+    let front = upTo-front m 0 found in
+    (upTo m 0 found, run-front fs (upTo m 0 found) (front .0) (subst (λ (zs : List File). Run fs zs) (front .1) (overlapping-run l fs r i)), refl)
+
+-- a manual pick finds nothing just where no file overlaps its range
+pub manual-empty : (m l : ℕ) (fs : List File) (r : Range) → isEmpty (manualInputs m l fs r) ≡ isEmpty (overlapping l fs r)
+unfolding manualInputs upTo isEmpty
+manual-empty m zero fs r = refl
+manual-empty m (suc l) fs r = completed-empty fs (upTo m 0 (overlapping (suc l) fs r)) ∙ go (overlapping (suc l) fs r)
+  where
+    go : (gs : List File) → isEmpty (upTo m 0 gs) ≡ isEmpty gs
+    go [] = refl
+    go (g ∷ gs) = refl
 
 -- the first inputs after growth
-pub grown-sub : (s : State) (m l : ℕ) (first second : List File) → Sub first (level s l) → Sub (grownFirst s m l first second) (level s l)
+pub grown-formed : (s : State) (m l : ℕ) (first second : List File) → InLine l (level s l) → FormedAt l (level s l) first → FormedAt l (level s l) (grownFirst s m l first second)
 unfolding grownFirst
-grown-sub s m l first second h = go (grows m first second grown again)
+grown-formed s m l first second i h = go (grows m first second grown again)
   where
     grown : List File
-    grown = overlapping l (level s l) (rangeOf (first ++ second))
+    grown = inputs l (level s l) (rangeOf (first ++ second))
 
     again : List File
-    again = overlapping (suc l) (level s (suc l)) (rangeOf grown)
+    again = inputs (suc l) (level s (suc l)) (rangeOf grown)
 
-    go : (b : Bool) → Sub (cond b grown first) (level s l)
-    go true = overlapping-sub l (level s l) (rangeOf (first ++ second))
+    go : (b : Bool) → FormedAt l (level s l) (cond b grown first)
+    go true = inputs-formed l (level s l) (rangeOf (first ++ second)) i
     go false = h
 
 -- the start file, and that it is in the list
@@ -217,7 +265,7 @@ size-nonempty p zero o fs g e =
     let r = rangeOf (Option·toList (startFile o fs)) in
     let own : overlaps r f ≡ true = rw (s .alone) (own-range p f (g f (s .among))) in
     in-nonempty (keep-in (overlaps (widen fs r)) fs f .1 (s .among, overlaps-mono r (widen fs r) f (widen-least fs r .contains) own))
-size-nonempty p (suc l) o fs g e = let s = start o fs e in rw (s .alone) (in-nonempty (here {x = s .file} {xs = []} refl))
+size-nonempty p (suc l) o fs g e = let s = start o fs e in completed-empty fs (Option·toList (startFile o fs)) ∙ rw (s .alone) (in-nonempty (here {x = s .file} {xs = []} refl))
 
 -- ---- growth
 -- after growth there is still a first input
@@ -226,10 +274,10 @@ unfolding grownFirst grows
 grown-nonempty s m l first second h = go (grows m first second grown again) refl
   where
     grown : List File
-    grown = overlapping l (level s l) (rangeOf (first ++ second))
+    grown = inputs l (level s l) (rangeOf (first ++ second))
 
     again : List File
-    again = overlapping (suc l) (level s (suc l)) (rangeOf grown)
+    again = inputs (suc l) (level s (suc l)) (rangeOf grown)
 
     go : (b : Bool) → grows m first second grown again ≡ b → isEmpty (cond b grown first) ≡ false
     go true k =
@@ -258,7 +306,7 @@ highKey-good p [] e g = clash refl e
 highKey-good p (f ∷ fs) e g = rw high-fold (largestOf-good p (f .largest) fs (goodFile-says p f .0 (g f (here refl)) .largest) (λ x m. g x (there m)))
 
 -- the state that a pick leaves is well-formed
-pub complete-keeps : (p : Profile) (s : State) (m : ℕ) (c : Cause) (l : ℕ) (first : List File) → WF p s → Sub first (level s l) → isEmpty first ≡ false → WF p (complete p s m c l first .after)
+pub complete-keeps : (p : Profile) (s : State) (m : ℕ) (c : Cause) (l : ℕ) (first : List File) → WF p s → FormedAt l (level s l) first → isEmpty first ≡ false → WF p (complete p s m c l first .after)
 unfolding complete setPointer goodPointer level
 complete-keeps p s m c l first w h e = record {
   levels = w .levels;
@@ -273,13 +321,16 @@ complete-keeps p s m c l first w h e = record {
 }
   where
     second : List File
-    second = overlapping (suc l) (level s (suc l)) (rangeOf first)
+    second = inputs (suc l) (level s (suc l)) (rangeOf first)
 
     picked : List File
     picked = grownFirst s m l first second
 
+    line : InLine l (level s l)
+    line = level-in-line p s l w
+
     key-good : goodKey (p .longest) (highKey picked) ≡ true
-    key-good = highKey-good p picked (grown-nonempty s m l first second e) (λ f i. w .good f (join-in (s .files) l f (sub-in f (grown-sub s m l first second h) i)))
+    key-good = highKey-good p picked (grown-nonempty s m l first second e) (λ f i. w .good f (join-in (s .files) l f (sub-in f (formed-sub l (level s l) picked line (grown-formed s m l first second line h)) i)))
 
     go : (o : Option Key) → (o ≡ some (highKey picked)) ⊎ In o (s .pointers) → goodPointer p o ≡ true
     go o (inl q) = rw q key-good
@@ -296,14 +347,15 @@ size-keeps p s m k h =
     let good : (f : File) → In f (level s l) → goodFile p f ≡ true = λ f i. w .good f (join-in (s .files) l f i) in
     subst (λ (x : Pick). WF p (x .after)) (a .result)
     (complete-keeps p s m (bySize (reported (score s l))) l (sizeInputs l (pointer s l) (level s l)) w
-    (size-sub l (pointer s l) (level s l)) (size-nonempty p l (pointer s l) (level s l) good some-file))
+    (size-formed l (pointer s l) (level s l)) (size-nonempty p l (pointer s l) (level s l) good some-file))
 
 -- an accepted manual pick keeps a state well-formed
 pub range-keeps : (p : Profile) (s : State) (m l : ℕ) (a b : Key) (k : Pick) → manualPick p s m l a b ≡ gives k → WF p (k .after)
 range-keeps p s m l a b k h =
     let r = range-accepted p s m l a b k h in
+    let w = formed-says p s .0 (r .formed) in
     subst (λ (x : Pick). WF p (x .after)) (r .result)
-    (complete-keeps p s m manual l (manualInputs m l (level s l) (between a b)) (formed-says p s .0 (r .formed)) (manual-sub m l (level s l) (between a b)) (r .some-input))
+    (complete-keeps p s m manual l (manualInputs m l (level s l) (between a b)) w (manual-formed m l (level s l) (between a b) (level-in-line p s l w)) (r .some-input))
 
 -- ---- the lists of a picked answer
 -- first inputs are files of the level, second inputs of the next, grandparents of the one after
@@ -321,34 +373,38 @@ grand-sub p s l r = go (ltb (l + 2) (p .levels))
     go true = overlapping-sub (l + 2) (level s (l + 2)) r
     go false = sub-none (level s (l + 2))
 
--- the lists of a pick are parts of their levels
-complete-of-level : (p : Profile) (s : State) (m : ℕ) (c : Cause) (l : ℕ) (first : List File) → Sub first (level s l) → OfLevel s (complete p s m c l first .picked)
+-- so are the lists of a pick
+complete-of-level : (p : Profile) (s : State) (m : ℕ) (c : Cause) (l : ℕ) (first : List File) → WF p s → FormedAt l (level s l) first → OfLevel s (complete p s m c l first .picked)
 unfolding complete
-complete-of-level p s m c l first h =
-    let second = overlapping (suc l) (level s (suc l)) (rangeOf first) in
+complete-of-level p s m c l first w h =
+    let second = inputs (suc l) (level s (suc l)) (rangeOf first) in
+    let line = level-in-line p s l w in
     record {
-      first = grown-sub s m l first second h;
-      second = overlapping-sub (suc l) (level s (suc l)) (rangeOf first);
+      first = formed-sub l (level s l) (grownFirst s m l first second) line (grown-formed s m l first second line h);
+      second = run-sub (inputs-run l (level s (suc l)) (rangeOf first) (level-line p s l w));
       grand = grand-sub p s l (rangeOf (grownFirst s m l first second ++ second));
     }
 
 -- the same for a size pick
 pub size-inputs-of-level : (p : Profile) (s : State) (m : ℕ) (k : Pick) → sizePick p s m ≡ gives k → OfLevel s (k .picked)
 size-inputs-of-level p s m k h =
+    let a = size-accepted p s m k h in
     let l = levelToCompact p s in
-    subst (λ (x : Pick). OfLevel s (x .picked)) (size-accepted p s m k h .result)
-    (complete-of-level p s m (bySize (reported (score s l))) l (sizeInputs l (pointer s l) (level s l)) (size-sub l (pointer s l) (level s l)))
+    subst (λ (x : Pick). OfLevel s (x .picked)) (a .result)
+    (complete-of-level p s m (bySize (reported (score s l))) l (sizeInputs l (pointer s l) (level s l)) (formed-says p s .0 (a .formed)) (size-formed l (pointer s l) (level s l)))
 
 -- the same for a manual pick
 pub range-inputs-of-level : (p : Profile) (s : State) (m l : ℕ) (a b : Key) (k : Pick) → manualPick p s m l a b ≡ gives k → OfLevel s (k .picked)
 range-inputs-of-level p s m l a b k h =
-    subst (λ (x : Pick). OfLevel s (x .picked)) (range-accepted p s m l a b k h .result)
-    (complete-of-level p s m manual l (manualInputs m l (level s l) (between a b)) (manual-sub m l (level s l) (between a b)))
+    let r = range-accepted p s m l a b k h in
+    let w = formed-says p s .0 (r .formed) in
+    subst (λ (x : Pick). OfLevel s (x .picked)) (r .result)
+    (complete-of-level p s m manual l (manualInputs m l (level s l) (between a b)) w (manual-formed m l (level s l) (between a b) (level-in-line p s l w)))
 
 -- a pick from some first inputs has a first input
 complete-nonempty : (p : Profile) (s : State) (m : ℕ) (c : Cause) (l : ℕ) (first : List File) → isEmpty first ≡ false → isEmpty (complete p s m c l first .picked .first) ≡ false
 unfolding complete
-complete-nonempty p s m c l first e = grown-nonempty s m l first (overlapping (suc l) (level s (suc l)) (rangeOf first)) e
+complete-nonempty p s m c l first e = grown-nonempty s m l first (inputs (suc l) (level s (suc l)) (rangeOf first)) e
 
 -- a size pick has one
 pub size-first-nonempty : (p : Profile) (s : State) (m : ℕ) (k : Pick) → sizePick p s m ≡ gives k → isEmpty (k .picked .first) ≡ false
@@ -368,8 +424,8 @@ range-first-nonempty p s m l a b k h =
     subst (λ (x : Pick). isEmpty (x .picked .first) ≡ false) (r .result)
     (complete-nonempty p s m manual l (manualInputs m l (level s l) (between a b)) (r .some-input))
 
--- ---- growth keeps the second inputs: the files of level + 1 that overlap the final first inputs' range are exactly the second inputs
--- a list of good files overlaps its own range
+-- ---- growth keeps the second inputs: the files of level + 1 that overlap the final first inputs' range, completed, are exactly the second inputs
+-- a list of good files lies in its own range
 in-own-range : (fs : List File) → ((f : File) → In f fs → before (f .largest) (f .smallest) ≡ false) → (f : File) → In f fs → overlaps (rangeOf fs) f ≡ true
 unfolding rangeOf between
 in-own-range [] g f m = absurd (not-nil m)
@@ -399,71 +455,113 @@ unfolding overlapping
 overlapping-keeps zero fs r f m o = keep-in (overlaps (widen fs r)) fs f .1 (m, overlaps-mono r (widen fs r) f (widen-least fs r .contains) o)
 overlapping-keeps (suc l) fs r f m o = keep-in (overlaps r) fs f .1 (m, o)
 
--- the grown range overlaps the same files of level + 1
+-- a file of the level that overlaps the range is among the inputs
+inputs-keeps : (l : ℕ) (fs : List File) (r : Range) (f : File) → In f fs → overlaps r f ≡ true → In f (inputs l fs r)
+unfolding inputs completedAt
+inputs-keeps zero fs r f m o = overlapping-keeps 0 fs r f m o
+inputs-keeps (suc l) fs r f m o = completed-contains fs (overlapping (suc l) fs r) f (overlapping-keeps (suc l) fs r f m o)
+
+-- a wider range has more inputs
+inputs-more : (l : ℕ) (fs : List File) (r v : Range) → Line fs → Within r v → Sub (inputs (suc l) fs r) (inputs (suc l) fs v)
+unfolding inputs completedAt overlapping
+inputs-more l fs r v i w = completed-more fs (keep (overlaps r) fs) (keep (overlaps v) fs) i (overlapping-run l fs r i) (overlapping-run l fs v i)
+    (λ f m. let q = keep-in (overlaps r) fs f .0 m in keep-in (overlaps v) fs f .1 (q .0, overlaps-mono r v f w (q .1)))
+
+-- the grown files have the first inputs among them
+inputs-grown : (s : State) (l : ℕ) (first : List File) → ((f : File) → In f (level s l) → before (f .largest) (f .smallest) ≡ false) → Line (level s (suc l)) → Sub first (level s l)
+    → (f : File) → In f first → In f (inputs l (level s l) (rangeOf (first ++ inputs (suc l) (level s (suc l)) (rangeOf first))))
+inputs-grown s l first good line sub f i = inputs-keeps l (level s l) (rangeOf (first ++ second)) f (sub-in f sub i)
+    (in-own-range (first ++ second) (λ g j. ordered g (append-cases first j)) f (in-left second i))
+  where
+    second : List File
+    second = inputs (suc l) (level s (suc l)) (rangeOf first)
+
+    ordered : (f : File) → In f first ⊎ In f second → before (f .largest) (f .smallest) ≡ false
+    ordered f (inl i) = good f (sub-in f sub i)
+    ordered f (inr i) = line .good f (sub-in f (run-sub (inputs-run l (level s (suc l)) (rangeOf first) line)) i)
+
+-- growth keeps the first inputs
+grown-keeps : (s : State) (m l : ℕ) (first : List File) → ((f : File) → In f (level s l) → before (f .largest) (f .smallest) ≡ false) → Line (level s (suc l)) → Sub first (level s l)
+    → (f : File) → In f first → In f (grownFirst s m l first (inputs (suc l) (level s (suc l)) (rangeOf first)))
+unfolding grownFirst
+grown-keeps s m l first good line sub f i = go (grows m first second grown again)
+  where
+    second : List File
+    second = inputs (suc l) (level s (suc l)) (rangeOf first)
+
+    grown : List File
+    grown = inputs l (level s l) (rangeOf (first ++ second))
+
+    again : List File
+    again = inputs (suc l) (level s (suc l)) (rangeOf grown)
+
+    go : (b : Bool) → In f (cond b grown first)
+    go true = inputs-grown s l first good line sub f i
+    go false = i
+
+-- what a pick starts from is among its first inputs
+pub complete-starts : (p : Profile) (s : State) (m : ℕ) (c : Cause) (l : ℕ) (first : List File) → WF p s → FormedAt l (level s l) first → (f : File) → In f first → In f (complete p s m c l first .picked .first)
+unfolding complete level
+complete-starts p s m c l first w h = grown-keeps s m l first (λ f i. goodFile-order p f (w .good f (join-in (s .files) l f i))) (level-line p s l w) (formed-sub l (level s l) first (level-in-line p s l w) h)
+
+-- the grown range has the same inputs of level + 1
 same-overlap : (s : State) (m l : ℕ) (x : File) (xs : List File) → ((f : File) → In f (level s l) → before (f .largest) (f .smallest) ≡ false)
-    → ((f : File) → In f (level s (suc l)) → before (f .largest) (f .smallest) ≡ false) → Sub (x ∷ xs) (level s l)
-    → overlapping (suc l) (level s (suc l)) (rangeOf (grownFirst s m l (x ∷ xs) (overlapping (suc l) (level s (suc l)) (rangeOf (x ∷ xs)))))
-    ≡ overlapping (suc l) (level s (suc l)) (rangeOf (x ∷ xs))
-unfolding grownFirst grows overlapping
-same-overlap s m l x xs good good′ sub = go (grows m first second grown again) refl
+    → Line (level s (suc l)) → Sub (x ∷ xs) (level s l)
+    → inputs (suc l) (level s (suc l)) (rangeOf (grownFirst s m l (x ∷ xs) (inputs (suc l) (level s (suc l)) (rangeOf (x ∷ xs)))))
+    ≡ inputs (suc l) (level s (suc l)) (rangeOf (x ∷ xs))
+unfolding grownFirst grows
+same-overlap s m l x xs good line sub = go (grows m first second grown again) refl
   where
     first : List File
     first = x ∷ xs
 
     second : List File
-    second = keep (overlaps (rangeOf first)) (level s (suc l))
+    second = inputs (suc l) (level s (suc l)) (rangeOf first)
 
     grown : List File
-    grown = overlapping l (level s l) (rangeOf (first ++ second))
+    grown = inputs l (level s l) (rangeOf (first ++ second))
 
     again : List File
-    again = keep (overlaps (rangeOf grown)) (level s (suc l))
-
-    ordered : (f : File) → In f first ⊎ In f second → before (f .largest) (f .smallest) ≡ false
-    ordered f (inl i) = good f (sub-in f sub i)
-    ordered f (inr i) = good′ f (keep-in (overlaps (rangeOf first)) (level s (suc l)) f .0 i .0)
-
-    stays : (f : File) → In f first → In f grown
-    stays f i = overlapping-keeps l (level s l) (rangeOf (first ++ second)) f (sub-in f sub i)
-        (in-own-range (first ++ second) (λ g j. ordered g (append-cases first j)) f (in-left second i))
+    again = inputs (suc l) (level s (suc l)) (rangeOf grown)
 
     wider : (gs : List File) → ((f : File) → In f first → In f gs) → Within (rangeOf first) (rangeOf gs)
     wider [] h = absurd (not-nil (h x (here refl)))
     wider (y ∷ ys) h = range-within x y xs ys h
 
-    go : (b : Bool) → grows m first second grown again ≡ b → keep (overlaps (rangeOf (cond b grown first))) (level s (suc l)) ≡ second
+    go : (b : Bool) → grows m first second grown again ≡ b → inputs (suc l) (level s (suc l)) (rangeOf (cond b grown first)) ≡ second
     go false e = refl
     go true e =
-        let w = wider grown stays in
+        let w = wider grown (inputs-grown s l first good line sub) in
         let a = not (isEmpty second) && ltb (length first) (length grown) && ltb (total grown + total second) (25 * m) in
         let n = eqb-true (length again) (length second) (and-right a (eqb (length again) (length second)) e) in
-        sym (sub-same (keep-sub (overlaps (rangeOf first)) (overlaps (rangeOf grown)) (level s (suc l)) (λ f o. overlaps-mono (rangeOf first) (rangeOf grown) f w o)) (sym n))
+        sym (sub-same (inputs-more l (level s (suc l)) (rangeOf first) (rangeOf grown) line w) (sym n))
 
--- the same for a pick from any first inputs
-complete-second-same : (p : Profile) (s : State) (m : ℕ) (c : Cause) (l : ℕ) (first : List File) → WF p s → Sub first (level s l) → isEmpty first ≡ false
-    → overlapping (suc l) (level s (suc l)) (rangeOf (complete p s m c l first .picked .first)) ≡ complete p s m c l first .picked .second
+-- for a pick from any first inputs
+complete-second-same : (p : Profile) (s : State) (m : ℕ) (c : Cause) (l : ℕ) (first : List File) → WF p s → FormedAt l (level s l) first → isEmpty first ≡ false
+    → inputs (suc l) (level s (suc l)) (rangeOf (complete p s m c l first .picked .first)) ≡ complete p s m c l first .picked .second
 unfolding complete isEmpty level
-complete-second-same p s m c l [] w sub e = clash refl e
-complete-second-same p s m c l (x ∷ xs) w sub e = same-overlap s m l x xs
-    (λ f i. goodFile-order p f (w .good f (join-in (s .files) l f i))) (λ f i. goodFile-order p f (w .good f (join-in (s .files) (suc l) f i))) sub
+complete-second-same p s m c l [] w h e = clash refl e
+complete-second-same p s m c l (x ∷ xs) w h e = same-overlap s m l x xs
+    (λ f i. goodFile-order p f (w .good f (join-in (s .files) l f i))) (level-line p s l w) (formed-sub l (level s l) (x ∷ xs) (level-in-line p s l w) h)
 
 -- the same for a size pick
 pub size-second-same : (p : Profile) (s : State) (m : ℕ) (k : Pick) → sizePick p s m ≡ gives k
-    → overlapping (suc (k .picked .level)) (level s (suc (k .picked .level))) (rangeOf (k .picked .first)) ≡ k .picked .second
+    → inputs (suc (k .picked .level)) (level s (suc (k .picked .level))) (rangeOf (k .picked .first)) ≡ k .picked .second
 unfolding level complete
 size-second-same p s m k h =
     let a = size-accepted p s m k h in
     let w = formed-says p s .0 (a .formed) in
     let l = levelToCompact p s in
-    subst (λ (x : Pick). overlapping (suc (x .picked .level)) (level s (suc (x .picked .level))) (rangeOf (x .picked .first)) ≡ x .picked .second) (a .result)
-    (complete-second-same p s m (bySize (reported (score s l))) l (sizeInputs l (pointer s l) (level s l)) w (size-sub l (pointer s l) (level s l))
+    subst (λ (x : Pick). inputs (suc (x .picked .level)) (level s (suc (x .picked .level))) (rangeOf (x .picked .first)) ≡ x .picked .second) (a .result)
+    (complete-second-same p s m (bySize (reported (score s l))) l (sizeInputs l (pointer s l) (level s l)) w (size-formed l (pointer s l) (level s l))
     (size-nonempty p l (pointer s l) (level s l) (λ f i. w .good f (join-in (s .files) l f i)) (due-nonempty s l (a .is-due))))
 
 -- the same for a manual pick
 pub range-second-same : (p : Profile) (s : State) (m l : ℕ) (a b : Key) (k : Pick) → manualPick p s m l a b ≡ gives k
-    → overlapping (suc (k .picked .level)) (level s (suc (k .picked .level))) (rangeOf (k .picked .first)) ≡ k .picked .second
+    → inputs (suc (k .picked .level)) (level s (suc (k .picked .level))) (rangeOf (k .picked .first)) ≡ k .picked .second
 unfolding complete
 range-second-same p s m l a b k h =
     let r = range-accepted p s m l a b k h in
-    subst (λ (x : Pick). overlapping (suc (x .picked .level)) (level s (suc (x .picked .level))) (rangeOf (x .picked .first)) ≡ x .picked .second) (r .result)
-    (complete-second-same p s m manual l (manualInputs m l (level s l) (between a b)) (formed-says p s .0 (r .formed)) (manual-sub m l (level s l) (between a b)) (r .some-input))
+    let w = formed-says p s .0 (r .formed) in
+    subst (λ (x : Pick). inputs (suc (x .picked .level)) (level s (suc (x .picked .level))) (rangeOf (x .picked .first)) ≡ x .picked .second) (r .result)
+    (complete-second-same p s m manual l (manualInputs m l (level s l) (between a b)) w (manual-formed m l (level s l) (between a b) (level-in-line p s l w)) (r .some-input))

@@ -11,18 +11,23 @@ use native.Mathlib.Omega.{arith}
 use Rattle.lemmas.specs.Order.{clash, le-lt}
 use Rattle.lemmas.specs.Lists.{any, all, chain, join, isEmpty, member, distinct, sum, upFrom}
 use Rattle.lemmas.specs.ListLaws.{and-left, and-right, both, all-in, join-in, join-length, any-in, or-right, upFrom-any, Sub, end, skip, also, sub-in, sub-length, sub-chain}
+use Rattle.lemmas.specs.Runs.{run-sub}
 use Rattle.model.specs.Key.{Key, before}
 use Rattle.model.specs.KeyLaws.{before-order}
 use Rattle.model.specs.Answer.{gives}
-use Rattle.model.specs.File.{Profile, File, State, level, pointer, total, numbers, bySmallest, goodFile, inOrder, levelwise}
+use Rattle.model.specs.File.{Profile, File, State, level, pointer, total, numbers, bySmallest, goodFile, inOrder}
 use Rattle.model.specs.Score.{score, levelToCompact, reported}
 use Rattle.model.specs.Range.{Range, between, overlapping, rangeOf}
+use Rattle.model.specs.Completion.{inputs}
 use Rattle.model.specs.Pick.{sizeInputs, manualInputs, Cause, bySize, manual, Picked, Pick, grandOf, grownFirst, complete, badMaximum, sizePick, manualPick, goodLevel, goodPicked}
 use Rattle.model.specs.Question.{passed, Cutter, cutStep}
 use Rattle.model.specs.Calls.{counts-up-to, goodCutter}
 use Rattle.model.specs.Formed.{WF, formed-says, goodFile-order, distinct-level}
 use Rattle.model.specs.ScoreLaws.{level-is}
-use Rattle.model.specs.PickLaws.{size-accepted, range-accepted, overlapping-sub, size-sub, manual-sub, grown-sub, due-nonempty, size-nonempty, grown-nonempty}
+pub use Rattle.model.specs.LineLaws.{levelwise-at}
+use Rattle.model.specs.LineLaws.{level-line}
+use Rattle.model.specs.CompletionLaws.{inputs-run}
+use Rattle.model.specs.PickLaws.{size-accepted, range-accepted, overlapping-sub, FormedAt, level-in-line, formed-sub, size-formed, manual-formed, grown-formed, due-nonempty, size-nonempty, grown-nonempty}
 
 -- Calls accept what other calls return: a picked answer is well-formed, and the cutter keeps its memory well-formed. Assumes nothing.
 
@@ -55,14 +60,6 @@ sub-ordered (suc l) g s c = sub-chain (λ (f g : File). before (f .largest) (g .
     (λ f g h i a b. before-order .trans (f .largest) (g .smallest) (h .smallest) a (le-lt before before-order (g .smallest) (g .largest) (h .smallest) i b)) g s c
 
 -- ---- a part of a level of a well-formed state is a well-formed level
--- a test of all levels holds at each
-pub levelwise-at : (p : ℕ → List File → Bool) (k : ℕ) (fss : List (List File)) (i : ℕ) → i < length fss → levelwise p k fss ≡ true → p (k + i) (getD fss i []) ≡ true
-unfolding levelwise
-levelwise-at p k [] i h c = absurd (omega arith)
-levelwise-at p k (fs ∷ fss) zero h c = let e : k ≡ k + 0 = omega arith in subst (λ (n : ℕ). p n fs ≡ true) e (and-left (p k fs) (levelwise p (suc k) fss) c)
-levelwise-at p k (fs ∷ fss) (suc i) h c = let e : suc k + i ≡ k + suc i = omega arith in
-    subst (λ (n : ℕ). p n (getD fss i []) ≡ true) e (levelwise-at p (suc k) fss i (omega arith) (and-right (p k fs) (levelwise p (suc k) fss) c))
-
 -- three levels have no more files than all
 three-levels : (fss : List (List File)) (l : ℕ) → length (getD fss l []) + length (getD fss (suc l) []) + length (getD fss (suc (suc l)) []) ≤ length (join fss)
 unfolding join
@@ -202,13 +199,14 @@ goodPicked-says p c =
 
 -- a pick from some first inputs gives a well-formed answer
 pub complete-good : (p : Profile) (s : State) (m : ℕ) (c : Cause) (l : ℕ) (first : List File) → WF p s → suc l < p .levels → badMaximum m ≡ false
-    → Sub first (level s l) → isEmpty first ≡ false → goodPicked p (complete p s m c l first .picked) ≡ true
+    → FormedAt l (level s l) first → isEmpty first ≡ false → goodPicked p (complete p s m c l first .picked) ≡ true
 unfolding complete level
-complete-good p s m c l first w h bm sub ne =
-    let second = overlapping (suc l) (level s (suc l)) (rangeOf first) in
+complete-good p s m c l first w h bm formed ne =
+    let second = inputs (suc l) (level s (suc l)) (rangeOf first) in
     let first′ = grownFirst s m l first second in
-    let sub₁ = grown-sub s m l first second sub in
-    let sub₂ = overlapping-sub (suc l) (level s (suc l)) (rangeOf first) in
+    let line = level-in-line p s l w in
+    let sub₁ = formed-sub l (level s l) first′ line (grown-formed s m l first second line formed) in
+    let sub₂ = run-sub (inputs-run l (level s (suc l)) (rangeOf first) (level-line p s l w)) in
     let g = grand-is p s l (rangeOf (first′ ++ second)) w in
     goodPicked-says p (complete p s m c l first .picked) .1 record {
       level = h;
@@ -231,16 +229,17 @@ size-good p s m k two h =
     let some-file = due-nonempty s l (a .is-due) in
     subst (λ (x : Pick). goodPicked p (x .picked) ≡ true) (a .result)
     (complete-good p s m (bySize (reported (score s l))) l (sizeInputs l (pointer s l) (level s l)) w (omega (arith, level-is p s two .among)) (a .maximum)
-    (size-sub l (pointer s l) (level s l)) (size-nonempty p l (pointer s l) (level s l) (λ f i. w .good f (join-in (s .files) l f i)) some-file))
+    (size-formed l (pointer s l) (level s l)) (size-nonempty p l (pointer s l) (level s l) (λ f i. w .good f (join-in (s .files) l f i)) some-file))
 
 -- the same for a manual pick
 pub range-good : (p : Profile) (s : State) (m l : ℕ) (a b : Key) (k : Pick) → manualPick p s m l a b ≡ gives k → goodPicked p (k .picked) ≡ true
 range-good p s m l a b k h =
     let r = range-accepted p s m l a b k h in
+    let w = formed-says p s .0 (r .formed) in
     let below = ltb-true l (p .levels) (r .in-levels) in
     subst (λ (x : Pick). goodPicked p (x .picked) ≡ true) (r .result)
-    (complete-good p s m manual l (manualInputs m l (level s l) (between a b)) (formed-says p s .0 (r .formed)) (under below (eqb-false (suc l) (p .levels) (r .not-last))) (r .maximum)
-    (manual-sub m l (level s l) (between a b)) (r .some-input))
+    (complete-good p s m manual l (manualInputs m l (level s l) (between a b)) w (under below (eqb-false (suc l) (p .levels) (r .not-last))) (r .maximum)
+    (manual-formed m l (level s l) (between a b) (level-in-line p s l w)) (r .some-input))
   where
     under : l < p .levels → (suc l ≡ p .levels → ⊥) → suc l < p .levels
     under i n = omega arith
