@@ -16,6 +16,11 @@ module _ {A : Type 0} where
   keep p [] = []
   keep p (x ∷ xs) = push (p x) x (keep p xs)
 
+  -- the items that are taken one after another, each by what is taken so far, up to the first that is not. xs are taken already
+  unfoldable pub takeOn : (List A → A → Bool) → List A → List A → List A
+  takeOn p xs [] = []
+  takeOn p xs (y ∷ ys) = cond (p xs y) (y ∷ takeOn p (xs ++ (y ∷ [])) ys) []
+
   -- some item passes
   unfoldable pub any : (A → Bool) → List A → Bool
   any p [] = false

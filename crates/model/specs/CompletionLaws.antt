@@ -8,7 +8,7 @@ use mathlib.Core.Option.{none, some}
 use borrow.Author.Tests.{not-true}
 use native.Mathlib.Omega.{arith}
 use Rattle.lemmas.specs.Order.{clash, asym, le-lt, lt-le}
-use Rattle.lemmas.specs.Lists.{push, keep, find, isEmpty}
+use Rattle.lemmas.specs.Lists.{push, keep, takeOn, find, isEmpty}
 use Rattle.lemmas.specs.ListLaws.{and-left, and-right, both, neither-left, neither-right, find-some, find-none, keep-none, Sub, sub-none, sub-in, sub-length, sub-same}
 use Rattle.lemmas.specs.Runs.{Run, to-left, within, to-right, Side, side, run-none, run-later, run-sub, sub-within}
 use Rattle.model.specs.Key.{Key, user, userBefore, before}
@@ -197,17 +197,26 @@ record Ended (fs : List File) (x : File) (xs : List File) : Type 0 where
   run : Run fs ((x ∷ xs) ++ more)
   ends : NoneFollows fs ((x ∷ xs) ++ more)
 
--- so it is
-ended : (fs : List File) (x : File) (xs : List File) → Line fs → Run fs (x ∷ xs) → Ended fs x xs
+-- the files to the right of a run stand in line
+right-line : (fs xs : List File) → Line fs → (r : Run fs xs) → Line (r .right)
+right-line fs xs l r = line-right xs (r .right) (line-right (r .left) (xs ++ r .right) (subst Line (r .is) l))
+
+-- what is added stands to the right of the run
+completed-right : (fs : List File) (x : File) (xs : List File) → Line fs → (r : Run fs (x ∷ xs)) → completed fs (x ∷ xs) ≡ (x ∷ xs) ++ following (highKey (x ∷ xs)) (r .right)
 unfolding completed
+completed-right fs x xs l r =
+    let k = highKey (x ∷ xs) in
+    let ys = x ∷ xs in
+    ap (λ (zs : List File). ys ++ zs)
+    (ap (following k) (r .is) ∙ following-skip k (r .left) (ys ++ r .right) (λ f m. not-after k f (left-not-after fs x xs l r f m))
+    ∙ following-skip k ys (r .right) (λ f m. not-after k f (in-not-after fs x xs l r f m)))
+
+-- the completed list ends so
+ended : (fs : List File) (x : File) (xs : List File) → Line fs → Run fs (x ∷ xs) → Ended fs x xs
 ended fs x xs l r =
     let k = highKey (x ∷ xs) in
     let ys = x ∷ xs in
-    let skipped : following k fs ≡ following k (r .right) = ap (following k) (r .is)
-    ∙ following-skip k (r .left) (ys ++ r .right) (λ f m. not-after k f (left-not-after fs x xs l r f m))
-    ∙ following-skip k ys (r .right) (λ f m. not-after k f (in-not-after fs x xs l r f m)) in
-    let right-line = line-right ys (r .right) (line-right (r .left) (ys ++ r .right) (subst Line (r .is) l)) in
-    let front = following-front k (r .right) right-line (λ f m. right-after fs x xs l r f m) in
+    let front = following-front k (r .right) (right-line fs ys l r) (λ f m. right-after fs x xs l r f m) in
     let more = following k (r .right) in
     let wide : Run fs (ys ++ more) = record {
       left = r .left;
@@ -216,7 +225,7 @@ ended fs x xs l r =
     } in
     record {
       more = more;
-      is = ap (λ (zs : List File). ys ++ zs) skipped;
+      is = completed-right fs x xs l r;
       run = wide;
       ends = run-closed fs x (xs ++ more) l wide (λ f m. rw (high-append x xs more) (front .ends f m));
     }
@@ -363,6 +372,32 @@ completed-adds fs (x ∷ xs) f l h e =
     let n = find-some (follows k) fs f e in
     let high : highKey ((x ∷ xs) ++ (f ∷ [])) ≡ f .largest = high-append x xs (f ∷ []) ∙ taller k f (lt-le before before-order k (f .smallest) (f .largest) (follows-says k f .0 (n .0) .after) (l .good f (n .1))) in
     ap (λ (zs : List File). (x ∷ xs) ++ zs) (next fs k f l e) ∙ ap (λ (q : Key). (x ∷ xs) ++ (f ∷ following q fs)) (sym high) ∙ sym (append-assoc (x ∷ xs) (f ∷ []) (following (highKey ((x ∷ xs) ++ (f ∷ []))) fs))
+
+-- ---- file by file, as a loop goes
+-- the files that follow a list's largest key are those taken as long as the next file follows the largest key so far
+following-on : (x : File) (xs fs : List File) → Line fs → ((f : File) → In f fs → before (highKey (x ∷ xs)) (f .smallest) ≡ true)
+    → following (highKey (x ∷ xs)) fs ≡ takeOn (λ ys f. follows (highKey ys) f) (x ∷ xs) fs
+unfolding following push takeOn
+following-on x xs [] l h = refl
+following-on x xs (f ∷ fs) l h = go (follows (highKey (x ∷ xs)) f) refl (following-on x (xs ++ (f ∷ [])) fs (line-rest f fs l))
+  where
+    start : before (highKey (x ∷ xs)) (f .smallest) ≡ true
+    start = h f (here refl)
+
+    -- with the file added its largest key is the list's
+    high : highKey (x ∷ (xs ++ (f ∷ []))) ≡ f .largest
+    high = high-append x xs (f ∷ []) ∙ taller (highKey (x ∷ xs)) f (lt-le before before-order (highKey (x ∷ xs)) (f .smallest) (f .largest) start (l .good f (here refl)))
+
+    go : (t : Bool) → follows (highKey (x ∷ xs)) f ≡ t
+        → (((g : File) → In g fs → before (highKey (x ∷ (xs ++ (f ∷ [])))) (g .smallest) ≡ true) → following (highKey (x ∷ (xs ++ (f ∷ [])))) fs ≡ takeOn (λ ys f. follows (highKey ys) f) (x ∷ (xs ++ (f ∷ []))) fs)
+        → push t f (following (cond t (f .largest) (highKey (x ∷ xs))) fs) ≡ cond t (f ∷ takeOn (λ ys f. follows (highKey ys) f) (x ∷ (xs ++ (f ∷ []))) fs) []
+    go true e ih = ap (λ (zs : List File). f ∷ zs) (ap (λ (k : Key). following k fs) (sym high) ∙ ih (λ g m. rw high (line-first f g fs l m)))
+    go false e ih = following-none (highKey (x ∷ xs)) fs (λ g m. none-after (highKey (x ∷ xs)) f fs l start e g (there m))
+
+-- so a run of neighbours is completed by going on at its right end
+pub completed-on : (fs : List File) (x : File) (xs : List File) → Line fs → (r : Run fs (x ∷ xs)) → completed fs (x ∷ xs) ≡ (x ∷ xs) ++ takeOn (λ ys f. follows (highKey ys) f) (x ∷ xs) (r .right)
+completed-on fs x xs l r =
+    completed-right fs x xs l r ∙ ap (λ (zs : List File). (x ∷ xs) ++ zs) (following-on x xs (r .right) (right-line fs (x ∷ xs) l r) (λ f m. right-after fs x xs l r f m))
 
 -- ---- the overlapping files of a level in line are a run of neighbours
 -- from a file that is not left of the range on, they are a front

@@ -23,7 +23,6 @@ pub mod Formed
 pub mod ScoreLaws
 pub mod LineLaws
 pub mod CompletionLaws
-pub mod PlaceLaws
 pub mod PickLaws
 pub mod PickedLaws
 pub mod EdgeLaws
