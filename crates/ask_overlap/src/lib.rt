@@ -13,9 +13,7 @@ use keys::Key;
 use keys::UserKey;
 use level_list::FileList;
 use level_list::Listed;
-use pick_found::FoundRun;
 use pick_range::Span;
-use pick_search::Choice;
 use records::Level;
 use store::Store;
 
@@ -49,8 +47,8 @@ pub fn overlap_in_level(s: Store, level: usize, start: UserKey, stop: UserKey) -
     YesNo::No
 }
 
-// The files of a level that overlap the range of two internal keys, in level order. Level 0 takes the least widening. These are the first inputs of a pick without a
-// byte limit.
+// The files of a level that overlap the range of two internal keys, in level order. Level 0 takes the least widening. They are not completed by files that share an
+// edge key.
 pub fn overlapping_inputs(s: Store, level: usize, start: Key, stop: Key) -> Listed
     ensures { λ r. ⌜ r ≡ listed (onStore s (λ t. calls.overlappingInputs full t level (keyOf start) (keyOf stop) (full .room))) ⌝ }
 {
@@ -67,8 +65,7 @@ pub fn overlapping_inputs(s: Store, level: usize, start: Key, stop: Key) -> List
         return level_list::nothing(Refusal::KEY);
     }
     let span = pick_range::between(start, stop);
-    let asked = pick_search::asking(level, 0, span, FoundRun::ALL);
-    let chosen = pick_search::chosen_of(s, asked, Choice::FIRST, Choice::SECOND);
+    let chosen = pick_search::overlap_of(s, level, span);
     let files = chosen.files;
     let list = FileList {
         files: files,

@@ -4,9 +4,12 @@ ghost use mathlib.Core.Bool.{not, _&&_};
 ghost use Prim.Native.Nat.{_+_, _^_, _<_};
 ghost use lib.Dec.{ltb};
 ghost use Rattle.model.specs.File.{maxFiles};
+ghost use Rattle.model.specs.Completion as completion;
 ghost use Rattle.model.specs.Key.{user, userBefore};
 ghost use Rattle.keys.specs.Key.{keyOf, userOf};
+ghost use Rattle.records.specs.Record.{fileOf};
 ghost use Rattle.pick_found.specs.FoundRun.{lowWith, highWith, noneAt, rangeFound, jointFound};
+use keys::Key;
 use keys::UserKey;
 use keys::Word;
 use pick_range::Span;
@@ -102,6 +105,18 @@ pub fn is_taken(bytes: u64, most: u64, stop: UserKey, f: FileRecord) -> bool
     }
     let low = f.smallest;
     !keys::user_is_before(stop, low)
+}
+
+// Whether a file's smallest key follows a key with the same user key. Internal.
+pub fn follows(high: Key, f: FileRecord) -> bool
+    ensures { λ r. ⌜ r ≡ completion.follows (keyOf high) (fileOf f) ⌝ }
+{
+    let low = f.smallest;
+    let user = keys::user_key(high);
+    if keys::user_is_before(user, low) {
+        return false;
+    }
+    keys::is_before(high, low)
 }
 
 // The range of files found. Internal.

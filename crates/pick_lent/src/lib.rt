@@ -11,7 +11,6 @@ use keys::Key;
 use pick_answer::Picked;
 use pick_plan::PickPlan;
 use pick_plan::Taken;
-use pick_search::Choice;
 use store::Store;
 
 // A size pick at the level with the greatest score. Refused with 10 if no work is due.
@@ -46,16 +45,16 @@ fn take(s: &mut Store, plan: PickPlan) -> Taken
 // Follows an accepted plan on a lent store: makes its searches and sets the level's pointer. Requires: the store is well-formed, the plan's searches can begin on
 // it, and its level is below the last.
 fn follow(s: &mut Store, plan: PickPlan) -> Taken
-    requires { ⌜ Ready (now s) (plan .asked) (plan .search) 5 × (plan .asked .level < lastLevel) ⌝ }
+    requires { ⌜ Ready (now s) (plan .asked) (plan .search) × (plan .asked .level < lastLevel) ⌝ }
     ensures { λ r. ⌜ Leaves (now (s .entry)) (picksFrom (now (s .entry)) (plan .cause) (plan .asked) (plan .search)) r (now (s .exit)) ⌝ }
 {
-    // First inputs, second inputs, growth, grandparents.
-    let c = pick_search::choose(&*s, plan.asked, plan.search, Choice::SEARCHES);
+    // First inputs, second inputs, growth, grandparents. Input lists are completed where files share an edge key.
+    let c = pick_search::choose(&*s, plan.asked, plan.search);
     // 10 where nothing qualifies.
     let e = pick_plan::ended(plan.cause, c);
     // The lists of the answer, in that order.
     let files = pick_search::laid(&*s, e.choice);
-    // The level's pointer becomes the first inputs' largest key.
+    // The level's pointer becomes the completed first inputs' largest key.
     s.pointers = pick_plan::pointed(s.pointers, e.choice);
     let picked = Picked {
         level: e.choice.level,

@@ -17,6 +17,7 @@ use Rattle.records.specs.declared.FileRecord.{FileRecord}
 use Rattle.store.specs.declared.Pointer.{Pointer}
 use Rattle.store.specs.declared.Store.{Store}
 use Rattle.store.specs.Store.{stateOf, wellStore, onStore, StoreShape}
+use Rattle.pick_found.specs.declared.FoundRun.{FoundRun}
 use Rattle.pick_score.specs.declared.Scored.{Scored}
 use Rattle.pick_score.specs.Scores.{scoredOf}
 use Rattle.pick_range.specs.Ranges.{spanRecord}
@@ -29,9 +30,8 @@ use Rattle.pick_search.specs.Choice.{begun, firsts}
 use Rattle.pick_search.specs.Search.{Ready}
 use Rattle.pick_plan.specs.declared.Ending.{Ending}
 use Rattle.pick_plan.specs.declared.PickPlan.{PickPlan}
-use Rattle.pick_plan.specs.declared.Started.{Started}
 use Rattle.pick_plan.specs.declared.Taken.{Taken}
-use Rattle.pick_plan.specs.Starts.{startedIn}
+use Rattle.pick_plan.specs.Starts.{Starts}
 
 -- ---- the plan
 -- the choice of a refused plan
@@ -62,7 +62,7 @@ answerOf s p = orRefused (p .outcome) (picksFrom s (p .cause) (p .asked) (p .sea
 
 -- if the plan is not refused, its searches can begin
 pub record Feasible (s : Store) (p : PickPlan) : Type 0 where
-  pub ready : p .outcome ≡ Done → Ready s (p .asked) (p .search) 5
+  pub ready : p .outcome ≡ Done → Ready s (p .asked) (p .search)
   pub level : p .outcome ≡ Done → p .asked .level < lastLevel
 
 -- the plan gives this answer
@@ -70,9 +70,9 @@ pub record Plans (s : Store) (a : Answer model.Pick) (p : PickPlan) : Type 0 whe
   pub answers : answerOf s p ≡ a
   pub feasible : Feasible s p
 
--- the plan of a size pick on any well-formed store with this level to compact and this file to start with
-abbrev pub SizePlanned : Scored → Started → ℕ → PickPlan → Type 0
-SizePlanned c z m p = (s : Store) → StoreShape s → wellStore s ≡ true → c ≡ scoredOf (stateOf s) → z ≡ startedIn s (c .level) (c .due) → Plans s (onStore s (λ t. model.sizePick full t m)) p
+-- the plan of a size pick on any well-formed store with this level to compact and these files to start with
+abbrev pub SizePlanned : Scored → FoundRun → ℕ → PickPlan → Type 0
+SizePlanned c z m p = (s : Store) → StoreShape s → wellStore s ≡ true → c ≡ scoredOf (stateOf s) → Starts s (c .level) (c .due) z → Plans s (onStore s (λ t. model.sizePick full t m)) p
 
 -- the plan of a manual pick on any store, given whether that is well-formed
 abbrev pub RangePlanned : Bool → ℕ → ℕ → List ℕ → List ℕ → PickPlan → Type 0

@@ -1,41 +1,28 @@
--- The file that a size pick starts with, as a place in a store's array, and the limit of a manual pick. Assumes nothing.
+-- The files that a size pick starts with, as places in a store's array, and the limit of a manual pick. Assumes nothing.
 use Prim.Native.Nat.{ℕ, zero, suc, _+_, _-_, min}
+use mathlib.Core.Path.{_≡_}
 use mathlib.Core.Bool.{Bool, cond, _&&_}
-use mathlib.Core.List.{List, [], _∷_}
+use mathlib.Core.List.{List, [], _∷_, Option·toList}
 use mathlib.Core.Option.{Option, none, some, orElse}
 use lib.Dec.{ltb}
 use lib.ListN.{length, getD, take}
 use Rattle.lemmas.specs.Lists.{find, sum, upFrom}
-use Rattle.model.specs.File.{maxWord}
+use Rattle.model.specs.Completion.{completedAt}
+use Rattle.model.specs.File.{level, pointer, maxWord}
 use Rattle.model.specs.Key.{Key, before}
-use Rattle.records.specs.Record.{blank, past}
-use Rattle.records.specs.RecordLaws as record-laws
+use Rattle.model.specs.Pick.{startFile}
 use Rattle.records.specs.declared.FileRecord.{FileRecord}
 use Rattle.store.specs.declared.Store.{Store}
-use Rattle.store.specs.Store.{pointerOf}
+use Rattle.store.specs.Store.{pointerOf, stateOf}
 use Rattle.store.specs.StoreLaws.{past as pastPointer}
 use Rattle.pick_found.specs.declared.FoundRun.{FoundRun}
-use Rattle.pick_found.specs.FoundRun.{fileAt, startAt, endAt}
+use Rattle.pick_found.specs.FoundRun.{fileAt, startAt, endAt, noneAt, inputsOf, Known}
 use Rattle.bisect.specs.declared.Window.{Window}
-use Rattle.pick_plan.specs.declared.Started.{Started}
-use Rattle.pick_plan.specs.declared.Start.the-variants.{At, Nothing}
-
--- one file found, by its place and its record
-unfoldable pub oneFound : ℕ → FileRecord → FoundRun
-oneFound i f = record { from = i; count = 1; ends = record { low = f .smallest; high = f .largest }; bytes = f .size }
 
 -- the byte limit of a manual pick's first inputs: none at level 0, M deeper
 unfoldable pub limitOf : ℕ → ℕ → ℕ
 limitOf m zero = maxWord
 limitOf m (suc l) = m
-
--- no file to start with
-unfoldable pub noStart : Started
-noStart = record { start = Nothing; file = blank }
-
--- a file to start with
-unfoldable pub startedAt : ℕ → FileRecord → Started
-startedAt i f = record { start = At i; file = f }
 
 -- the first search of a size pick: at level 0 by the range of its file, deeper for second inputs
 unfoldable pub searchOf : ℕ → ℕ
@@ -58,14 +45,10 @@ startPlace (some k) from to files =
 unfoldable pub startIn : Store → ℕ → Option ℕ
 startIn s n = startPlace (pointerOf (getD (s .pointers) n pastPointer)) (startAt s n) (endAt s n) (s .files)
 
--- the file at a place, or none
-unfoldable pub fromPlace : Store → Option ℕ → Started
-fromPlace s none = noStart
-fromPlace s (some i) = startedAt i (getD (s .files) i past)
-
--- the file that a size pick of a level starts with, or none if no work is due
-unfoldable pub startedIn : Store → ℕ → Bool → Started
-startedIn s n due = fromPlace s (cond due (startIn s n) none)
+-- the files that a size pick of a level starts with, known by their places: the start file, completed above level 0, or none if no work is due
+pub record Starts (s : Store) (n : ℕ) (due : Bool) (r : FoundRun) : Type 0 where
+  pub known : Known s n r
+  pub are : inputsOf s r ≡ completedAt n (level (stateOf s) n) (Option·toList (cond due (startFile (pointer (stateOf s) n) (level (stateOf s) n)) none))
 
 -- ---- step by step
 -- the places of a level, or none if no work is due
@@ -88,3 +71,7 @@ firstAfter k p files = placeOr (p .hi) (find (λ i. before k (fileAt files i .la
 -- the place to start with: i if there is a pointer and i is one of the places, else the first. 0 if there are none
 unfoldable pub startAmong : Window → Bool → ℕ → ℕ
 startAmong p pointed i = cond (ltb (p .lo) (p .hi)) (cond (pointed && ltb i (p .hi)) i (p .lo)) 0
+
+-- the file at a place as files found, or none if there are no places
+unfoldable pub startedBy : Window → ℕ → FileRecord → FoundRun
+startedBy p i f = cond (ltb (p .lo) (p .hi)) (record { from = i; count = 1; ends = record { low = f .smallest; high = f .largest }; bytes = f .size }) (noneAt (p .hi))

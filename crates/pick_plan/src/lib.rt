@@ -1,14 +1,13 @@
 // What a pick decides outside its searches: its refusals, the file that a size pick starts with, its plan on a lent store, its answer, and the pointer that it sets.
 ghost use mathlib.Core.Path.{_≡_};
-ghost use mathlib.Core.Bool.{cond, true};
+ghost use mathlib.Core.Bool.{true};
 ghost use Prim.Native.Nat.{_<_, _≤_};
-ghost use lib.Dec.{ltb};
 ghost use Rattle.lemmas.specs.Lists.{sum};
 ghost use Rattle.model.specs.Key.{before};
 ghost use Rattle.model.specs.Pick as model;
 ghost use Rattle.model.specs.File.{full, levelCount, maxFiles};
 ghost use Rattle.keys.specs.Key.{keyOf};
-ghost use Rattle.pick_plan.specs.Starts.{oneFound, limitOf, searchOf, noStart, startedAt, placesOf, nearerBy, startAmong, startedIn, firstAfter};
+ghost use Rattle.pick_plan.specs.Starts.{limitOf, searchOf, startedBy, placesOf, nearerBy, startAmong, firstAfter, Starts};
 ghost use Rattle.pick_plan.specs.Plans.{noChoice, noPlan, isAccepted, noneTaken, SizePlanned, RangePlanned, endOf, pointersBy, Plans};
 ghost use Rattle.store.specs.Store.{wellStore, lookOf, onStore, StoreShape};
 use answers::Outcome;
@@ -20,24 +19,12 @@ use pick_answer::Picked;
 use pick_found::FoundRun;
 use pick_score::Scored;
 use pick_search::Choice;
+use pick_search::Sweep;
 use records::Ends;
 use records::FileRecord;
 use records::Level;
 use store::Pointer;
 use store::Store;
-
-// The place of the file to start with, or nothing.
-pub enum Start {
-    At(usize),
-    Nothing,
-}
-
-// The file to start with.
-pub struct Started {
-    pub start: Start,
-    // Its record, or the blank one if there is none.
-    pub file: FileRecord,
-}
 
 // The plan of a pick, or the number of its refusal.
 pub struct PickPlan {
@@ -153,57 +140,13 @@ fn start_place(p: Window, pointed: bool, i: usize) -> usize
     p.lo
 }
 
-// No file to start with.
-fn nothing_started() -> Started
-    ensures { λ r. ⌜ r ≡ noStart ⌝ }
+// The file f at place i as files found, or none if there are no places.
+fn started_by(p: Window, i: usize, f: FileRecord) -> FoundRun
+    ensures { λ r. ⌜ r ≡ startedBy p i f ⌝ }
 {
-    let start = Start::Nothing;
-    let file = records::blank_record();
-    Started {
-        start: start,
-        file: file,
+    if p.hi <= p.lo {
+        return pick_found::nothing_at(p.hi);
     }
-}
-
-// A file to start with.
-fn started_at(i: usize, f: FileRecord) -> Started
-    ensures { λ r. ⌜ r ≡ startedAt i f ⌝ }
-{
-    let start = Start::At(i);
-    Started {
-        start: start,
-        file: f,
-    }
-}
-
-// The file f at place i, or none if the level has no files.
-fn started_by(p: Window, i: usize, f: FileRecord) -> Started
-    ensures { λ r. ⌜ r ≡ cond (ltb (p .lo) (p .hi)) (startedAt i f) noStart ⌝ }
-{
-    if p.lo < p.hi {
-        return started_at(i, f);
-    }
-    nothing_started()
-}
-
-// The file that a size pick starts with: the level's first file whose largest key is after the pointer, or its first file if there is no pointer or none is after
-// it. Nothing if no work is due. Requires: the store has its shape and is well-formed, and the level is one of the seven.
-fn size_start(s: &Store, level: usize, due: bool) -> Started
-    requires { ⌜ StoreShape (now s) × (wellStore (now s) ≡ true) × (level < levelCount) ⌝ }
-    ensures { λ r. ⌜ r ≡ startedIn (now (s .entry)) level due ⌝ }
-{
-    let p = start_places(s.counts, level, due);
-    let z = s.pointers[level];
-    let i = first_after(s, p, z.key);
-    let j = start_place(p, z.set, i);
-    let f = store::file_at(s, j);
-    started_by(p, j, f)
-}
-
-// One file found, by its place and its record.
-fn one_file(i: usize, f: FileRecord) -> FoundRun
-    ensures { λ r. ⌜ r ≡ oneFound i f ⌝ }
-{
     let low = f.smallest;
     let high = f.largest;
     let ends = Ends {
@@ -218,8 +161,24 @@ fn one_file(i: usize, f: FileRecord) -> FoundRun
     }
 }
 
-// The first search of a size pick. Above level 0 it goes straight to second inputs. At level 0 it searches by the range of its file, and the widening replaces that
-// file.
+// The files that a size pick starts with: the level's first file whose largest key is after the pointer, or its first file if there is no pointer or none is after
+// it, completed above level 0. Nothing if no work is due. Requires: the store has its shape and is well-formed, and the level is one of the seven.
+fn size_start(s: &Store, level: usize, due: bool) -> FoundRun
+    requires { ⌜ StoreShape (now s) × (wellStore (now s) ≡ true) × (level < levelCount) ⌝ }
+    ensures { λ r. ⌜ Starts (now (s .entry)) level due r ⌝ }
+{
+    let p = start_places(s.counts, level, due);
+    let z = s.pointers[level];
+    let i = first_after(s, p, z.key);
+    let j = start_place(p, z.set, i);
+    let f = store::file_at(s, j);
+    let one = started_by(p, j, f);
+    let q = pick_search::edge_question(level, p.hi);
+    pick_search::taken(s, q, one, Sweep::BY_EDGE)
+}
+
+// The first search of a size pick. Above level 0 it has its first inputs and goes straight to second inputs. At level 0 it searches by the range of its file, and
+// the widening replaces that file.
 fn search_of(level: usize) -> usize
     ensures { λ r. ⌜ r ≡ searchOf level ⌝ }
 {
@@ -229,23 +188,20 @@ fn search_of(level: usize) -> usize
     Choice::SECOND
 }
 
-// The plan of a size pick, by the level to compact and the file to start with.
-fn size_planned(scored: Scored, started: Started, maximum: u64) -> PickPlan
+// The plan of a size pick, by the level to compact and the files to start with.
+fn size_planned(scored: Scored, started: FoundRun, maximum: u64) -> PickPlan
     ensures { λ r. ⌜ SizePlanned scored started maximum r ⌝ }
 {
     if is_bad_maximum(maximum) {
         return refused_plan(Refusal::COUNTER);
     }
-    let found = started.start;
-    let Start::At(i) = found else {
+    if started.count == 0 {
         return refused_plan(Refusal::NOTHING);
-    };
-    let f = started.file;
-    let one = one_file(i, f);
-    let span = pick_found::range_of(one);
+    }
+    let span = pick_found::range_of(started);
     let level = scored.level;
     let mut asked = pick_search::asking(level, maximum, span, FoundRun::ALL);
-    asked.first = one;
+    asked.first = started;
     let outcome = Outcome::Done;
     let cause = Cause::Size(scored.score);
     PickPlan {

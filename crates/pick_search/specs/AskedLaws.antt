@@ -1,7 +1,7 @@
 -- Laws of one search of a pick: its places are a level's, or none past the last level, and its result takes the pick to the next search. Assumes nothing.
 use Prim.Native.Nat.{ℕ, _+_, _≤_, _<_}
 use mathlib.Core.Path.{_≡_, refl, sym, ap, subst, _∙_}
-use mathlib.Core.Bool.{Bool, true, false}
+use mathlib.Core.Bool.{Bool, true, false, cond}
 use mathlib.Core.Logic.{_⊎_, inl, inr, ⊎-elim}
 use mathlib.Core.List.{List, [], map}
 use native.Mathlib.Omega.{arith}
@@ -10,6 +10,7 @@ use borrow.Author.Tests.{lt-ltb, le-ltb, ltb-true, ltb-false, eqb-true, eqb-fals
 use lib.ListN.{length, getD, length-map, List·getD-eq-default}
 use Rattle.lemmas.specs.Lists.{keep, sum}
 use Rattle.lemmas.specs.Slices.{parts, length-parts}
+use Rattle.model.specs.Completion.{completed}
 use Rattle.model.specs.File.{File, level, levelCount, maxFiles}
 use Rattle.model.specs.Pick.{upTo}
 use Rattle.model.specs.Range.{Range, overlaps, overlapping, widen}
@@ -30,7 +31,9 @@ use Rattle.pick_found.specs.ContiguousLaws.{contiguous-deeper, contiguous-widen
 use Rattle.pick_found.specs.CallsLaws.{level-run, level-ends}
 use Rattle.pick_search.specs.declared.Choice.{Choice}
 use Rattle.pick_search.specs.declared.Question.{Question}
-use Rattle.pick_search.specs.Choice.{askedLevel, askedSpan, askedMost, questionOf, filledWith, firsts, SearchInvariant, Widest, Finds}
+use Rattle.pick_search.specs.Choice.{askedLevel, askedSpan, askedMost, askedEdges, overBy, foundBy, questionOf, filledWith, firsts, SearchInvariant, Widest, Finds}
+use Rattle.pick_search.specs.Search.{Takable, Takes, Findable, Overlaps}
+use Rattle.pick_search.specs.CompletedLaws.{not-completed, is-completed}
 use Rattle.pick_search.specs.InvariantLaws.{invariant-next, filled-level, filled-maximum}
 
 -- ---- the places of a search
@@ -100,7 +103,7 @@ module _ (s : Store) (c : Choice) (k : ℕ) where
 
     module _ (h : wellStore s ≡ true) (q : length (s .files) ≡ maxFiles) (w : Range) (v : Widest a (s .files) w) where
       -- the files that overlap stand side by side
-      pub asked-contiguous : Contiguous (s .files) (a .from) (a .to) w
+      asked-contiguous : Contiguous (s .files) (a .from) (a .to) w
       asked-contiguous = go (ltb n levelCount) refl
         where
           go : (t : Bool) → ltb n levelCount ≡ t → Contiguous (s .files) (a .from) (a .to) w
@@ -116,7 +119,7 @@ module _ (s : Store) (c : Choice) (k : ℕ) where
               record { within = omega arith; room = omega arith; small = omega arith; none-before = λ i j x y z. absurd (omega arith); all-after = λ i j x y z. absurd (omega arith) }
 
       -- the files found are the overlapping files of the level, up to the limit
-      pub asked-found : (f : FoundRun) → Finds a (s .files) w f → Known s n f × (inputsOf s f ≡ upTo (askedMost c k) 0 (overlapping n (level (stateOf s) n) r))
+      asked-found : (f : FoundRun) → Finds a (s .files) w f → Known s n f × (inputsOf s f ≡ upTo (askedMost c k) 0 (overlapping n (level (stateOf s) n) r))
       unfolding inputsOf keep upTo
       asked-found f g = go (ltb n levelCount) refl
         where
@@ -139,14 +142,32 @@ module _ (s : Store) (c : Choice) (k : ℕ) where
                 g .1 ∙ ap (λ (gs : List File). upTo (a .most) 0 (keep (overlaps w) gs)) (run-ended (a .from) (a .to) (s .files) (omega arith)) ∙ sym (ap (upTo (askedMost c k) 0) over),
               )
 
+    module _ (h : wellStore s ≡ true) (q : length (s .files) ≡ maxFiles) where
+      -- its places are within the room, and the files that overlap stand side by side
+      pub asked-findable : Findable (s .files) a
+      asked-findable = ?
+
+      module _ (f : FoundRun) (o : Overlaps (s .files) a f) where
+        -- the files found are those of the level that overlap, up to the limit
+        pub asked-overlap : Known s n f × (inputsOf s f ≡ overBy s c k)
+        asked-overlap = ?
+
+        -- files can be taken after them
+        pub asked-takable : Takable (s .files) (a .to) f
+        asked-takable = ?
+
+        -- the same completed, if the search completes
+        pub asked-completed : (l : FoundRun) → Takes (s .files) a true f l → Known s n l × (inputsOf s l ≡ foundBy s c k)
+        asked-completed l g = ?
+
 -- ---- from one search to the next
 -- a store with these files, counts, pointers and counters
 abbrev pub storeWith : List FileRecord → List ℕ → List Pointer → Counters → Store
 storeWith files counts ps t = record { files = files; counts = counts; pointers = ps; counters = t }
 
 -- the pick started at c and has reached its k-th search at d. In any well-formed store with these files the invariant holds at d if it held at c
-pub record Goes (files : List FileRecord) (counts : List ℕ) (start end : ℕ) (c : Choice) (k : ℕ) (d : Choice) : Type 0 where
-  pub order : k ≤ end
+pub record Goes (files : List FileRecord) (counts : List ℕ) (start : ℕ) (c : Choice) (k : ℕ) (d : Choice) : Type 0 where
+  pub order : k ≤ 5
   pub level : d .level ≡ c .level
   pub maximum : d .maximum ≡ c .maximum
   pub stands : (ps : List Pointer) (t : Counters) → wellStore (storeWith files counts ps t) ≡ true
@@ -154,18 +175,18 @@ pub record Goes (files : List FileRecord) (counts : List ℕ) (start end : ℕ) 
       → SearchInvariant (storeWith files counts ps t) (firsts (storeWith files counts ps t) start c) k d
 
 -- the k-th search takes the pick to the next
-pub goes-next : (files : List FileRecord) (counts : List ℕ) (start end : ℕ) (c : Choice) (k : ℕ) (d : Choice) → length files ≡ maxFiles → length counts ≡ levelCount → end ≤ 5 → c .level < levelCount
-    → Goes files counts start end c k d → k < end → (w : Range) → Widest (questionOf d k counts) files w → (f : FoundRun) → Finds (questionOf d k counts) files w f
-    → (e : Choice) → e ≡ filledWith d k f → Goes files counts start end c (k + 1) e
-goes-next files counts start end c k d q p last few g h w v f b e is =
+pub goes-next : (files : List FileRecord) (counts : List ℕ) (start : ℕ) (c : Choice) (k : ℕ) (d : Choice) → length files ≡ maxFiles → length counts ≡ levelCount → c .level < levelCount
+    → Goes files counts start c k d → k < 5 → (f : FoundRun) → Overlaps files (questionOf d k counts) f → (l : FoundRun) → Takes files (questionOf d k counts) true f l
+    → (e : Choice) → e ≡ filledWith d k l → Goes files counts start c (k + 1) e
+goes-next files counts start c k d q p few g h f o l b e is =
     let same = g .level in
     rw is
     record {
       order = omega arith;
-      level = filled-level d k f ∙ g .level;
-      maximum = filled-maximum d k f ∙ g .maximum;
+      level = filled-level d k l ∙ g .level;
+      maximum = filled-maximum d k l ∙ g .maximum;
       stands = λ ps t well z.
           let s = storeWith files counts ps t in
-          let found = asked-found s d k p well q w v f b in
-          invariant-next s well q p (firsts s start c) k d (omega arith) (omega arith) (g .stands ps t well z) f (found .0) (found .1);
+          let found = asked-completed s d k p well q f o l b in
+          invariant-next s well q p (firsts s start c) k d h (omega arith) (g .stands ps t well z) l (found .0) (found .1);
     }

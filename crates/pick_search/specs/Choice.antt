@@ -8,15 +8,16 @@ use lib.Dec.{eqb, ltb}
 use lib.ListN.{getD, take}
 use Rattle.lemmas.specs.Lists.{keep, sum}
 use Rattle.model.specs.File.{File, full, level, levelCount, maxBytes, maxWord}
+use Rattle.model.specs.Completion.{completed, completedAt, inputs}
 use Rattle.model.specs.Pick.{upTo, grownFirst, grandOf}
-use Rattle.model.specs.Range.{Range, overlaps, overlapping, rangeOf, widen}
+use Rattle.model.specs.Range.{Range, between, overlaps, overlapping, rangeOf, widen}
 use Rattle.records.specs.Run.{run}
 use Rattle.records.specs.declared.FileRecord.{FileRecord}
 use Rattle.levels.specs.Levels.{laidOut}
 use Rattle.store.specs.declared.Store.{Store}
 use Rattle.store.specs.Store.{stateOf}
 use Rattle.pick_range.specs.declared.Span.{Span}
-use Rattle.pick_range.specs.Ranges.{spanOf}
+use Rattle.pick_range.specs.Ranges.{spanOf, spanRecord}
 use Rattle.pick_found.specs.declared.FoundRun.{FoundRun}
 use Rattle.pick_found.specs.FoundRun.{noneAt, inputsOf, Gathered, HeldAt, Summed, rangeFound, jointFound}
 use Rattle.pick_search.specs.declared.Choice.{Choice}
@@ -49,12 +50,20 @@ unfoldable pub askedMost : Choice → ℕ → ℕ
 askedMost c zero = c .most
 askedMost c (suc k) = maxWord
 
+-- whether the files that it finds are completed, by the level that it searches: above level 0, and not for grandparents
+unfoldable pub askedEdges : ℕ → ℕ → Bool
+askedEdges l k = not (eqb l 0) && not (eqb k 4)
+
 -- its question. A level past the last has no places
 unfoldable pub questionOf : Choice → ℕ → List ℕ → Question
 questionOf c k counts =
     let l = askedLevel (c .level) k in
     let from = cond (ltb l levelCount) (sum (take l counts)) 0 in
-    record { from = from; to = from + getD counts l 0; widens = eqb l 0; span = askedSpan c k; most = askedMost c k }
+    record { from = from; to = from + getD counts l 0; widens = eqb l 0; edges = askedEdges l k; span = askedSpan c k; most = askedMost c k }
+
+-- the question for the files that follow those found at a level, up to the level's end. It has no range
+unfoldable pub edgeQuestion : ℕ → ℕ → Question
+edgeQuestion l to = record { from = to; to = to; widens = false; edges = askedEdges l 0; span = spanRecord (between [] []); most = 0 }
 
 -- the range to search by: the least widening if the question widens, else its own range
 abbrev pub Widest : Question → List FileRecord → Range → Type 0
@@ -79,16 +88,26 @@ filledWith c (suc (suc (suc zero))) f =
     record { level = c .level; maximum = c .maximum; span = c .span; most = c .most; first = cond (growsBy c (f .count)) (c .grown) (c .first); second = c .second; grown = c .grown; grand = c .grand }
 filledWith c (suc (suc (suc (suc k)))) f = record { level = c .level; maximum = c .maximum; span = c .span; most = c .most; first = c .first; second = c .second; grown = c .grown; grand = f }
 
+-- ---- what the k-th search finds
+module _ (s : Store) (c : Choice) (k : ℕ) where
+  -- the level's files that overlap its range, up to its limit
+  abbrev pub overBy : List File
+  overBy = upTo (askedMost c k) 0 (overlapping (askedLevel (c .level) k) (level (stateOf s) (askedLevel (c .level) k)) (spanOf (askedSpan c k)))
+
+  -- the same completed, if it completes
+  abbrev pub foundBy : List File
+  foundBy = cond (askedEdges (askedLevel (c .level) k) k) (completed (level (stateOf s) (askedLevel (c .level) k)) overBy) overBy
+
 -- ---- what is known before the k-th search
--- the first inputs before growth: those that the first search will find, or those found already
+-- the first inputs before growth: those that the first search will find, completed, or those found already
 unfoldable pub firsts : Store → ℕ → Choice → List File
-firsts s zero c = upTo (c .most) 0 (overlapping (c .level) (level (stateOf s) (c .level)) (spanOf (c .span)))
+firsts s zero c = let fs = level (stateOf s) (c .level) in completedAt (c .level) fs (upTo (c .most) 0 (overlapping (c .level) fs (spanOf (c .span))))
 firsts s (suc k) c = inputsOf s (c .first)
 
 module _ (s : Store) (fs : List File) (c : Choice) where
   -- the second inputs
   abbrev pub seconds : List File
-  seconds = overlapping (c .level + 1) (level (stateOf s) (c .level + 1)) (rangeOf fs)
+  seconds = inputs (c .level + 1) (level (stateOf s) (c .level + 1)) (rangeOf fs)
 
   -- the first inputs after growth
   abbrev pub chosen : List File
@@ -110,7 +129,7 @@ pub record SearchInvariant (s : Store) (fs : List File) (k : ℕ) (c : Choice) :
   pub second-are : 2 ≤ k → inputsOf s (c .second) ≡ seconds s fs c
   pub grown-held : 3 ≤ k → HeldAt s (c .level) (c .grown)
   pub grown-sums : 3 ≤ k → Summed (inputsOf s (c .grown)) (c .grown .ends) (c .grown .bytes)
-  pub grown-are : 3 ≤ k → inputsOf s (c .grown) ≡ overlapping (c .level) (level (stateOf s) (c .level)) (rangeOf (fs ++ seconds s fs c))
+  pub grown-are : 3 ≤ k → inputsOf s (c .grown) ≡ inputs (c .level) (level (stateOf s) (c .level)) (rangeOf (fs ++ seconds s fs c))
   pub chosen-are : 4 ≤ k → inputsOf s (c .first) ≡ chosen s fs c
   pub grand-are : 5 ≤ k → inputsOf s (c .grand) ≡ grandOf full (stateOf s) (c .level) (rangeOf (chosen s fs c ++ seconds s fs c))
 

@@ -3,57 +3,49 @@ use Prim.Native.Nat.{ℕ, _+_, _≤_, _<_}
 use mathlib.Core.Path.{_≡_, refl, sym, subst}
 use mathlib.Core.Bool.{true}
 use native.Mathlib.Omega.{arith}
-use Rattle.model.specs.File.{levelCount, maxFiles}
-use Rattle.model.specs.Range.{Range}
+use Rattle.model.specs.File.{level, levelCount, maxFiles, maxWord}
+use Rattle.model.specs.Range.{Range, overlapping}
 use Rattle.model.specs.Pick.{largestMaximum}
 use Rattle.store.specs.declared.Store.{Store}
-use Rattle.store.specs.Store.{wellStore, StoreShape}
+use Rattle.store.specs.Store.{stateOf, wellStore, StoreShape}
+use Rattle.pick_range.specs.declared.Span.{Span}
 use Rattle.pick_range.specs.Ranges.{spanOf}
 use Rattle.pick_found.specs.declared.FoundRun.{FoundRun}
-use Rattle.pick_found.specs.FoundRun.{Contiguous}
 use Rattle.pick_found.specs.CallsLaws.{files-room}
 use Rattle.pick_search.specs.declared.Choice.{Choice}
 use Rattle.pick_search.specs.declared.Question.{Question}
-use Rattle.pick_search.specs.Choice.{questionOf, filledWith, firsts, SearchInvariant, Widest, Finds}
-use Rattle.pick_search.specs.Search.{spanning, Weighed, Searched, Ready, Chooses}
-use Rattle.pick_search.specs.AskedLaws.{asked-ends, asked-contiguous, Goes, goes-next}
+use Rattle.pick_search.specs.Choice.{begun, questionOf, filledWith, firsts, SearchInvariant}
+use Rattle.pick_search.specs.Search.{Takable, Takes, Findable, Overlaps, Weighed, Searched, Ready, Chooses}
+use Rattle.pick_search.specs.AskedLaws.{asked-findable, asked-takable, asked-overlap, Goes, goes-next}
 
--- ---- one search: q is its question, and w the question with the range to search by
-module _ (s : Store) (d : Choice) (k : ℕ) (h : wellStore s ≡ true) (q : Question) (e : q ≡ questionOf d k (s .counts)) where
-  -- its places are within the room
-  pub search-ends : q .to ≤ maxFiles
-  search-ends = subst (λ (a : Question). a .to ≤ maxFiles) (sym e) (asked-ends s d k (files-room s 0 h))
+-- ---- one search, by its question
+module _ (s : Store) (d : Choice) (k : ℕ) (shape : StoreShape s) (h : wellStore s ≡ true) (q : Question) (e : q ≡ questionOf d k (s .counts)) where
+  -- its places are within the room, and the files that overlap stand side by side
+  pub search-findable : Findable (s .files) q
+  search-findable = ?
 
-  module _ (w : Question) (v : (w ≡ spanning q (w .span)) × Widest q (s .files) (spanOf (w .span))) where
-    -- the range to search by
-    abbrev wide : Range
-    wide = spanOf (w .span)
+  module _ (f : FoundRun) (o : Overlaps (s .files) q f) where
+    -- the files found can be completed
+    pub search-takable : Takable (s .files) (q .to) f
+    search-takable = ?
 
-    -- it is the least widening or the question's own range
-    search-widest : Widest (questionOf d k (s .counts)) (s .files) wide
-    search-widest = subst (λ (a : Question). Widest a (s .files) wide) e (v .1)
+    -- the files found and completed are kept
+    pub search-kept : (l : FoundRun) → Takes (s .files) q true f l → (r : Choice) → r ≡ filledWith d k l → Searched s d k r
+    search-kept l g r is = ?
 
-    -- the files that overlap stand side by side
-    pub search-contiguous : StoreShape s → Contiguous (s .files) (w .from) (w .to) wide
-    unfolding spanning
-    search-contiguous z =
-        let same : Contiguous (s .files) (q .from) (q .to) wide = subst (λ (a : Question). Contiguous (s .files) (a .from) (a .to) wide) (sym e) (asked-contiguous s d k (z .counts) h (z .files) wide search-widest) in
-        subst (λ (a : Question). Contiguous (s .files) (a .from) (a .to) wide) (sym (v .0)) same
-
-    -- the files found are kept
-    pub search-kept : (f : FoundRun) → Finds w (s .files) wide f → (r : Choice) → r ≡ filledWith d k f → Searched s d k r
-    unfolding spanning
-    search-kept f g r is =
-        let same : Finds q (s .files) wide f = subst (λ (a : Question). Finds a (s .files) wide f) (v .0) g in
-        record { wide = wide; found = f; widest = search-widest; finds = subst (λ (a : Question). Finds a (s .files) wide f) e same; kept = is }
+-- ---- the files that overlap a range, not completed
+-- they are the first inputs of a choice with no other files
+pub listed : (s : Store) → StoreShape s → wellStore s ≡ true → (n : ℕ) → n < levelCount → (r : Span) (c : Choice) → c ≡ begun n 0 r maxWord → (q : Question) → q ≡ questionOf c 0 (s .counts)
+    → (f : FoundRun) → Overlaps (s .files) q f → (d : Choice) → d ≡ filledWith c 0 f → SearchInvariant s (overlapping n (level (stateOf s) n) (spanOf r)) 1 d
+listed s shape h n below r c is q e f o d kept = ?
 
 -- ---- all searches
-module _ (s : Store) (c : Choice) (start end : ℕ) (z : Ready s c start end) where
+module _ (s : Store) (c : Choice) (start : ℕ) (z : Ready s c start) where
   -- at the start
-  pub choose-starts : Goes (s .files) (s .counts) start end c start c
+  pub choose-starts : Goes (s .files) (s .counts) start c start c
   choose-starts = record { order = z .order; level = refl; maximum = refl; stands = λ ps t h y. y }
 
-  module _ (k : ℕ) (d : Choice) (g : Goes (s .files) (s .counts) start end c k d) where
+  module _ (k : ℕ) (d : Choice) (g : Goes (s .files) (s .counts) start c k d) where
     -- the invariant holds before the k-th search
     choose-stands : SearchInvariant s (firsts s start c) k d
     choose-stands = g .stands (s .pointers) (s .counters) (z .well) (z .stands)
@@ -64,11 +56,7 @@ module _ (s : Store) (c : Choice) (start end : ℕ) (z : Ready s c start end) wh
 
     -- it has made at most five searches
     pub choose-search : k ≤ 5
-    choose-search = let order = g .order in let last = z .last in omega arith
-
-    -- there is a search to make
-    pub choose-few : k < end → k < 5
-    choose-few l = let last = z .last in omega arith
+    choose-search = g .order
 
     -- M and the bytes are within their bounds
     pub choose-weighed : Weighed d
@@ -76,13 +64,12 @@ module _ (s : Store) (c : Choice) (start end : ℕ) (z : Ready s c start end) wh
         record { maximum = subst (λ (n : ℕ). n ≤ largestMaximum) (sym (g .maximum)) (z .maximum); grown = choose-stands .few-grown; second = choose-stands .few-second }
 
     -- the k-th search takes it to the next
-    pub choose-goes : StoreShape s → k < end → (r : Choice) → Searched s d k r → Goes (s .files) (s .counts) start end c (k + 1) r
-    choose-goes y l r x =
-        goes-next (s .files) (s .counts) start end c k d (y .files) (y .counts) (z .last) (z .level) g l (x .wide) (x .widest) (x .found) (x .finds) r (x .kept)
+    pub choose-goes : StoreShape s → k < 5 → (r : Choice) → Searched s d k r → Goes (s .files) (s .counts) start c (k + 1) r
+    choose-goes y l r x = goes-next (s .files) (s .counts) start c k d (y .files) (y .counts) (z .level) g l (x .found) (x .overlaps) (x .list) (x .completes) r (x .kept)
 
     -- after the last search it has the result of all
-    pub choose-ends : end ≤ k → Chooses s c start end d
+    pub choose-ends : 5 ≤ k → Chooses s c start d
     choose-ends l =
         let order = g .order in
-        let same : k ≡ end = omega arith in
+        let same : k ≡ 5 = omega arith in
         record { stands = subst (λ (n : ℕ). SearchInvariant s (firsts s start c) n d) same choose-stands; level = g .level; maximum = g .maximum }

@@ -9,6 +9,7 @@ use lib.Dec.{eqb, ltb}
 use borrow.Author.Tests.{lt-ltb, le-ltb, ne-eqb}
 use lib.ListN.{length}
 use Rattle.lemmas.specs.Lists.{isEmpty}
+use Rattle.model.specs.Completion.{inputs}
 use Rattle.model.specs.File.{File, State, full, level, total, setPointer, levelCount}
 use Rattle.model.specs.Pick.{Cause, grows, grownFirst, grandOf, complete}
 use Rattle.model.specs.Range.{Range, overlapping, highKey, rangeOf}
@@ -44,13 +45,13 @@ unfolding grows
 grows-by m first second grown again a b n k x y p q r u v w = rw (left-by second, p, q, r, u, v, w)
 
 module _ (t : State) (m l : ℕ) (first second : List File) where
-  -- the level's files overlapping the joint range
+  -- the level's files overlapping the joint range, completed
   abbrev pub grown : List File
-  grown = overlapping l (level t l) (rangeOf (first ++ second))
+  grown = inputs l (level t l) (rangeOf (first ++ second))
 
-  -- the files of level + 1 overlapping the grown files' range
+  -- the files of level + 1 overlapping the grown files' range, completed
   abbrev pub again : List File
-  again = overlapping (l + 1) (level t (l + 1)) (rangeOf grown)
+  again = inputs (l + 1) (level t (l + 1)) (rangeOf grown)
 
   -- the grown files replace the first inputs exactly if growth is allowed
   pub grown-by : grownFirst t m l first second ≡ cond (grows m first second grown again) grown first
@@ -72,7 +73,7 @@ module _ (t : State) (l : ℕ) (r : Range) where
 -- ---- the whole of a pick
 -- a pick is complete if each of its lists is as the model says
 pub complete-by : (t : State) (m : ℕ) (c : Cause) (l : ℕ) (first second chosen grand : List File)
-    → second ≡ overlapping (l + 1) (level t (l + 1)) (rangeOf first) → chosen ≡ grownFirst t m l first second → grand ≡ grandOf full t l (rangeOf (chosen ++ second))
+    → second ≡ inputs (l + 1) (level t (l + 1)) (rangeOf first) → chosen ≡ grownFirst t m l first second → grand ≡ grandOf full t l (rangeOf (chosen ++ second))
     → record { picked = record { level = l; cause = c; maximum = m; first = chosen; second = second; grand = grand }; after = setPointer t l (highKey chosen) } ≡ complete full t m c l first
 unfolding complete
 complete-by t m c l first second chosen grand e f g = rw (g, f, e, add-one)

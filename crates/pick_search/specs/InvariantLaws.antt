@@ -24,7 +24,7 @@ use Rattle.pick_found.specs.FoundRun.{noneAt, inputsOf, HeldAt, Known, Summed, 
 use Rattle.pick_found.specs.CallsLaws.{files-room}
 use Rattle.pick_found.specs.FoundLaws.{level-part, all-taken, held-count, known-range, known-joint}
 use Rattle.pick_search.specs.declared.Choice.{Choice}
-use Rattle.pick_search.specs.Choice.{begun, askedLevel, askedSpan, askedMost, growsBy, filledWith, firsts, seconds, chosen, SearchInvariant}
+use Rattle.pick_search.specs.Choice.{begun, askedLevel, askedSpan, askedMost, growsBy, filledWith, foundBy, firsts, seconds, chosen, SearchInvariant}
 use Rattle.pick_search.specs.HeldLaws.{three-counts}
 use Rattle.pick_search.specs.CompleteLaws.{grows-by, grown, again, grown-by, no-grand, some-grand, complete-by}
 
@@ -144,7 +144,7 @@ module _ (s : Store) (h : wellStore s ≡ true) (q : length (s .files) ≡ maxFi
   module _ (fs : List File) (c : Choice) (f : FoundRun) where
     -- the result of the search
     abbrev Finds : ℕ → Type 0
-    Finds k = inputsOf s f ≡ upTo (askedMost c k) 0 (overlapping (askedLevel (c .level) k) (level (stateOf s) (askedLevel (c .level) k)) (spanOf (askedSpan c k)))
+    Finds k = inputsOf s f ≡ foundBy s c k
 
     -- after the search for first inputs
     next-first : SearchInvariant s fs 0 c → Known s (c .level) f → Finds 0 → SearchInvariant s fs 1 (filledWith c 0 f)
@@ -309,8 +309,7 @@ module _ (s : Store) (h : wellStore s ≡ true) (q : length (s .files) ≡ maxFi
 
 -- after any search
 pub invariant-next : (s : Store) (h : wellStore s ≡ true) (q : length (s .files) ≡ maxFiles) (p : length (s .counts) ≡ levelCount) (fs : List File) (k : ℕ) (c : Choice) → k < 5 → c .level < levelCount → SearchInvariant s fs k c → (f : FoundRun)
-    → Known s (askedLevel (c .level) k) f
-    → inputsOf s f ≡ upTo (askedMost c k) 0 (overlapping (askedLevel (c .level) k) (level (stateOf s) (askedLevel (c .level) k)) (spanOf (askedSpan c k))) → SearchInvariant s fs (k + 1) (filledWith c k f)
+    → Known s (askedLevel (c .level) k) f → inputsOf s f ≡ foundBy s c k → SearchInvariant s fs (k + 1) (filledWith c k f)
 unfolding askedLevel
 invariant-next s h q p fs zero c i j g f k e = next-first s h q p fs c f g k e
 invariant-next s h q p fs (suc zero) c i j g f k e = next-second s h q p fs c f g k e

@@ -1,10 +1,11 @@
 pub mod Choice
+pub mod Search
+pub mod CompleteLaws
+pub mod HeldLaws
 pub mod InvariantLaws
+pub mod CompletedLaws
 pub mod AskedLaws
 pub mod LaidLaws
-pub mod HeldLaws
-pub mod CompleteLaws
-pub mod Search
 pub mod SearchLaws
 pub mod ChooseLaws
 pub mod PlacedLaws

@@ -2,29 +2,31 @@
 use Prim.Native.Nat.{ℕ, _+_, _-_, _^_, _≤_, _<_}
 use mathlib.Core.Path.{_≡_, refl, sym, ap, subst, _∙_}
 use mathlib.Core.Bool.{Bool, true, false, not, cond, _&&_}
-use mathlib.Core.List.{List}
+use mathlib.Core.List.{List, [], _++_}
 use native.Mathlib.Omega.{arith}
 use lib.Dec.{ltb}
 use lib.ListN.{length, getD}
 use borrow.Author.Tests.{ltb-true, ltb-false}
+use Rattle.lemmas.specs.Lists.{takeOn}
 use Rattle.lemmas.specs.Order.{clash}
-use Rattle.model.specs.File.{maxFiles}
+use Rattle.model.specs.File.{File, maxFiles}
 use Rattle.model.specs.Key.{user, userBefore}
 use Rattle.keys.specs.Key.{keyOf, userOf}
 use Rattle.records.specs.Record.{fileOf, past}
 use Rattle.records.specs.RecordLaws.{total-turn}
+use Rattle.records.specs.Run.{run}
 use Rattle.records.specs.declared.FileRecord.{FileRecord}
 use Rattle.pick_range.specs.Ranges.{spanOf}
 use Rattle.pick_found.specs.declared.FoundRun.{FoundRun}
 use Rattle.pick_found.specs.FoundRun.{fileAt, lowWith, highWith, endsBefore, noneAt, Contiguous, Passed}
-use Rattle.pick_found.specs.ContiguousLaws.{Halving, halving-up, halving-down, Taking, taking-start, taking-taken, taking-stops, taking-ended}
-use Rattle.pick_search.specs.Choice.{Finds}
+use Rattle.pick_found.specs.ContiguousLaws.{Halving, halving-up, halving-down}
+use Rattle.pick_search.specs.Choice.{Widest}
 use Rattle.bisect.specs.declared.Window.{Window}
 use Rattle.bisect.specs.Window.{midOf, halfOf}
 use Rattle.bisect.specs.WindowLaws.{mid-least, mid-below}
 use Rattle.pick_search.specs.declared.Question.{Question}
 use Rattle.pick_search.specs.declared.Sweep.{Sweep}
-use Rattle.pick_search.specs.Search.{sweepAt, takes, Sweeps}
+use Rattle.pick_search.specs.Search.{sweepFrom, takesNext, takesAfter, spanning, Sweeps, Takable, Takes, Findable, Overlaps}
 
 -- ---- by halves
 module _ (files : List FileRecord) (q : Question) (s : Contiguous files (q .from) (q .to) (spanOf (q .span))) (size : length files ≡ maxFiles) where
@@ -52,74 +54,56 @@ nextOf w = w .found .from + w .found .count
 unfoldable pub leftOf : Question → Sweep → ℕ
 leftOf q w = q .to - nextOf w + cond (w .goes) 1 0
 
--- a search from lo: while it goes on there is a next place, and when it ends it has found all
-pub record Sweeping (files : List FileRecord) (q : Question) (lo : ℕ) (w : Sweep) : Type 0 where
-  pub taking : Taking files (q .to) (q .most) (spanOf (q .span) .stop) lo (w .found) (nextOf w)
+module _ (files : List FileRecord) where
+  -- the files found, as a list
+  abbrev filesOf : FoundRun → List File
+  filesOf a = run (a .from) (a .from + a .count) files
+
+  -- of the files after them, those that a rule takes
+  abbrev moreOf : Question → Bool → FoundRun → List File
+  moreOf q edge a = takeOn (takesAfter q edge) (filesOf a) (run (a .from + a .count) (q .to) files)
+
+-- a search that goes on from a: the files found so far and those still to be taken are those of a and all to be taken after it. When it ends none is left to be taken
+pub record Sweeping (files : List FileRecord) (q : Question) (edge : Bool) (a : FoundRun) (w : Sweep) : Type 0 where
+  pub found : Takable files (q .to) (w .found)
+  starts : w .found .from ≡ a .from
   pub below : w .goes ≡ true → nextOf w < q .to
-  pub finds : w .goes ≡ false → Finds q files (spanOf (q .span)) (w .found)
+  rest : filesOf files (w .found) ++ moreOf files q edge (w .found) ≡ filesOf files a ++ moreOf files q edge a
+  ended : w .goes ≡ false → moreOf files q edge (w .found) ≡ []
 
-module _ (files : List FileRecord) (q : Question) (s : Contiguous files (q .from) (q .to) (spanOf (q .span))) (size : length files ≡ maxFiles) (lo : ℕ) (p : Passed files (q .from) (q .to) (spanOf (q .span)) lo) where
+module _ (files : List FileRecord) (q : Question) (edge : Bool) (a : FoundRun) (size : length files ≡ maxFiles) where
+  -- at first only the files of a are found
+  pub sweeping-start : Takable files (q .to) a → (w : Sweep) → w ≡ sweepFrom a (q .to) → Sweeping files q edge a w
+  sweeping-start h w e = ?
+
   -- the bytes with the next file's fit 64 bits
-  pub sweeping-small : (w : Sweep) → Sweeping files q lo w → w .goes ≡ true → (f : FileRecord) → f ≡ getD files (nextOf w) past → w .found .bytes + f .size < 2 ^ 64
-  sweeping-small w g t f e =
-      let small = g .taking .small in
-      let below = g .below t in
-      let room = s .room in
-      let same : f .size ≡ getD files (nextOf w) past .size = ap (λ (r : FileRecord). r .size) e in
-      omega (arith, total-turn (nextOf w) (q .to) files below (omega arith))
+  pub sweeping-small : (w : Sweep) → Sweeping files q edge a w → w .goes ≡ true → (f : FileRecord) → f ≡ getD files (nextOf w) past → w .found .bytes + f .size < 2 ^ 64
+  sweeping-small w g t f e = ?
 
-  -- a search that goes on exactly if there is a next place
-  stands : (a : FoundRun) (t : Bool) → Taking files (q .to) (q .most) (spanOf (q .span) .stop) lo a (a .from + a .count) → t ≡ ltb (a .from + a .count) (q .to) → Sweeping files q lo (record { found = a; goes = t })
-  stands a t g e = record {
-    taking = g;
-    below = λ h. ltb-true (a .from + a .count) (q .to) (sym e ∙ h);
-    finds = λ h. taking-ended files (q .from) (q .to) (q .most) (spanOf (q .span)) s size lo p a (a .from + a .count) g (ltb-false (a .from + a .count) (q .to) (sym e ∙ h));
-  }
-
-  -- at first nothing is taken
-  pub sweeping-start : (w : Sweep) → w ≡ sweepAt lo (q .to) → Sweeping files q lo w
-  unfolding sweepAt noneAt
-  sweeping-start w e =
-      let z : lo ≡ lo + 0 = omega arith in
-      let g : Taking files (q .to) (q .most) (spanOf (q .span) .stop) lo (noneAt lo) lo = taking-start files (q .from) (q .to) (q .most) (spanOf (q .span)) s size lo p in
-      subst (Sweeping files q lo) (sym e) (stands (noneAt lo) (ltb lo (q .to)) (subst (Taking files (q .to) (q .most) (spanOf (q .span) .stop) lo (noneAt lo)) z g) (ap (λ (i : ℕ). ltb i (q .to)) z))
-
-  module _ (w : Sweep) (g : Sweeping files q lo w) (t : w .goes ≡ true) (f : FileRecord) (e : f ≡ getD files (nextOf w) past) (r : Sweep) (h : Sweeps w q f r) where
+  module _ (w : Sweep) (g : Sweeping files q edge a w) (t : w .goes ≡ true) (f : FileRecord) (e : f ≡ getD files (nextOf w) past) (r : Sweep) (h : Sweeps w q edge f r) where
     -- the invariant holds after the next file
-    pub sweeping-next : Sweeping files q lo r
-    unfolding takes fileAt fileOf spanOf
-    sweeping-next = go (takes q (w .found) f) refl
-      where
-        same : (not (ltb (q .most) (w .found .bytes)) && not (userBefore (userOf (q .span .stop)) (user (keyOf (getD files (nextOf w) past .smallest))))) ≡ takes q (w .found) f
-        same = ap (λ (x : FileRecord). not (ltb (q .most) (w .found .bytes)) && not (userBefore (userOf (q .span .stop)) (user (keyOf (x .smallest))))) (sym e)
-
-        go : (b : Bool) → takes q (w .found) f ≡ b → Sweeping files q lo r
-        go true x =
-            let m = h .grows x in
-            let n : nextOf w + 1 ≡ r .found .from + r .found .count = omega (arith, m .from, m .count) in
-            let more : Taking files (q .to) (q .most) (spanOf (q .span) .stop) lo (r .found) (nextOf w + 1) = taking-taken files (q .from) (q .to) (q .most) (spanOf (q .span)) s size lo p (w .found) (nextOf w) (g .taking) (g .below t) (same ∙ x) (r .found) (m .from) (m .count)
-            (m .low ∙ ap (λ (y : FileRecord). lowWith (w .found .count) (keyOf (w .found .ends .low)) 1 (keyOf (y .smallest))) e)
-            (m .high ∙ ap (λ (y : FileRecord). highWith (w .found .count) (keyOf (w .found .ends .high)) 1 (keyOf (y .largest))) e)
-            (m .bytes ∙ ap (λ (y : FileRecord). w .found .bytes + y .size) e) in
-            stands (r .found) (r .goes) (subst (Taking files (q .to) (q .most) (spanOf (q .span) .stop) lo (r .found)) n more) (h .goes-on x ∙ ap (λ (i : ℕ). ltb i (q .to)) n)
-        go false x =
-            subst (Sweeping files q lo) (sym (h .ends x))
-            (record { taking = g .taking; below = λ z. clash z refl; finds = λ z. taking-stops files (q .from) (q .to) (q .most) (spanOf (q .span)) s size lo p (w .found) (nextOf w) (g .taking) (g .below t) (same ∙ x) })
+    pub sweeping-next : Sweeping files q edge a r
+    sweeping-next = ?
 
     -- the measure falls
     pub sweeping-nearer : leftOf q r < leftOf q w
-    unfolding leftOf
-    sweeping-nearer = go (takes q (w .found) f) refl
-      where
-        bit : (b : Bool) → cond b 1 0 ≤ 1
-        bit true = omega arith
-        bit false = omega arith
+    sweeping-nearer = ?
 
-        now : leftOf q w ≡ q .to - nextOf w + 1
-        now = rw t
+  -- when it ends it has taken all
+  pub sweeping-ends : (w : Sweep) → Sweeping files q edge a w → w .goes ≡ false → Takes files q edge a (w .found)
+  sweeping-ends w g t = ?
 
-        go : (b : Bool) → takes q (w .found) f ≡ b → leftOf q r < leftOf q w
-        go true x =
-            let m = h .grows x in
-            omega (arith, m .from, m .count, bit (r .goes), now, g .below t)
-        go false x = subst (λ (v : Sweep). leftOf q v < leftOf q w) (sym (h .ends x)) (omega (arith, now))
+-- ---- the files that overlap a range: w is the question with the range to search by
+module _ (files : List FileRecord) (size : length files ≡ maxFiles) (q : Question) (z : Findable files q) (w : Question) (v : (w ≡ spanning q (w .span)) × Widest q files (spanOf (w .span))) where
+  -- they stand side by side
+  pub overlap-contiguous : Contiguous files (w .from) (w .to) (spanOf (w .span))
+  overlap-contiguous = ?
+
+  module _ (lo : ℕ) (p : Passed files (w .from) (w .to) (spanOf (w .span)) lo) (a : FoundRun) (e : a ≡ noneAt lo) where
+    -- files can be taken from the place on that is reached
+    pub overlap-takable : Takable files (w .to) a
+    overlap-takable = ?
+
+    -- those taken by the range are the ones that overlap
+    pub overlap-found : (r : FoundRun) → Takes files w false a r → Overlaps files q r
+    overlap-found r g = ?

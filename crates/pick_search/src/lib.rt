@@ -7,14 +7,14 @@ ghost use Rattle.model.specs.File.{levelCount, maxBytes, maxFiles};
 ghost use Rattle.model.specs.Key.{user, userBefore};
 ghost use Rattle.model.specs.Range.{widen};
 ghost use Rattle.model.specs.Pick.{largestMaximum};
-ghost use Rattle.pick_search.specs.Choice.{begun, askedLevel, askedSpan, askedMost, questionOf, growsBy, filledWith, runsOf, placeIn, laidChoice, Widest, Finds};
+ghost use Rattle.pick_search.specs.Choice.{begun, askedLevel, askedSpan, askedMost, askedEdges, questionOf, edgeQuestion, growsBy, filledWith, runsOf, placeIn, laidChoice, Widest};
 ghost use Rattle.keys.specs.Key.{keyOf, userOf};
 ghost use Rattle.bisect.specs.Window.{halfOf};
 ghost use Rattle.records.specs.Run.{run};
 ghost use Rattle.store.specs.Store.{wellStore, StoreShape};
 ghost use Rattle.pick_range.specs.Ranges.{spanOf};
 ghost use Rattle.pick_found.specs.FoundRun.{Contiguous, Passed};
-ghost use Rattle.pick_search.specs.Search.{sweepAt, Sweeps, spanning, Weighed, Searched, Ready, Chooses, Placed};
+ghost use Rattle.pick_search.specs.Search.{sweepFrom, takesNext, Sweeps, spanning, Takable, Takes, Findable, Overlaps, Weighed, Searched, Ready, Chooses, Lists, Placed};
 use bisect::Window;
 use keys::UserKey;
 use pick_found::FoundRun;
@@ -71,6 +71,8 @@ pub struct Question {
     pub span: Span,
     // The byte limit.
     pub most: u64,
+    // Whether the files found are completed by those that share an edge key: above level 0, and not for grandparents.
+    pub edges: bool,
 }
 
 // A search that takes files one by one.
@@ -79,6 +81,14 @@ pub struct Sweep {
     pub found: FoundRun,
     // Whether the search goes on.
     pub goes: bool,
+}
+
+impl Sweep {
+    // The two rules by which a search takes the next file: it does not begin after the range, or its smallest key follows the largest key found with the same user
+    // key.
+    pub const BY_RANGE: bool = false;
+
+    pub const BY_EDGE: bool = true;
 }
 
 // Three runs of places: first inputs, second inputs, grandparents. `first`, `second` and `third` are their starts. `one`, `two` and `three` count the places up to the end
@@ -167,6 +177,16 @@ fn asked_most(c: Choice, k: usize) -> u64
     FoundRun::ALL
 }
 
+// Whether the k-th search completes the files that it finds: above level 0, and not for grandparents.
+fn asked_edges(level: usize, k: usize) -> bool
+    ensures { λ r. ⌜ r ≡ askedEdges level k ⌝ }
+{
+    if level == 0 {
+        return false;
+    }
+    k != Choice::GRAND
+}
+
 // The question of the k-th search. Requires: the level is one of the seven, k is below 5, and the counts are together within the room.
 fn asked(c: Choice, k: usize, counts: [usize; Level::COUNT]) -> Question
     requires { ⌜ (c .level < levelCount) × (k < 5) × (sum counts ≤ maxFiles) ⌝ }
@@ -186,6 +206,23 @@ fn asked(c: Choice, k: usize, counts: [usize; Level::COUNT]) -> Question
         widens: level == 0,
         span: span,
         most: asked_most(c, k),
+        edges: asked_edges(level, k),
+    }
+}
+
+// The question for the files that follow those found at a level, up to the level's end. It has no range. Internal.
+pub fn edge_question(level: usize, to: usize) -> Question
+    ensures { λ r. ⌜ r ≡ edgeQuestion level to ⌝ }
+{
+    let key = keys::blank_key();
+    let span = pick_range::between(key, key);
+    Question {
+        from: to,
+        to: to,
+        widens: false,
+        span: span,
+        most: 0,
+        edges: asked_edges(level, Choice::FIRST),
     }
 }
 
@@ -239,14 +276,15 @@ fn passed(s: &Store, q: Question) -> usize
     p.lo
 }
 
-// A search at a place, with nothing taken.
-fn sweeping(lo: usize, to: usize) -> Sweep
-    ensures { λ r. ⌜ r ≡ sweepAt lo to ⌝ }
+// A search that goes on from the files found: while a place is left. Requires: these are within the room.
+fn sweeping(a: FoundRun, to: usize) -> Sweep
+    requires { ⌜ a .from + a .count ≤ maxFiles ⌝ }
+    ensures { λ r. ⌜ r ≡ sweepFrom a to ⌝ }
 {
-    let none = pick_found::nothing_at(lo);
+    let next = a.from + a.count;
     Sweep {
-        found: none,
-        goes: lo < to,
+        found: a,
+        goes: next < to,
     }
 }
 
@@ -258,14 +296,31 @@ fn next_place(w: Sweep) -> usize
     w.found.from + w.found.count
 }
 
+// Whether the next file f is taken, by the rule.
+fn takes_next(a: FoundRun, q: Question, edge: bool, f: FileRecord) -> bool
+    ensures { λ r. ⌜ r ≡ takesNext q edge a f ⌝ }
+{
+    if !edge {
+        let span = q.span;
+        return pick_found::is_taken(a.bytes, q.most, span.stop, f);
+    }
+    if !q.edges {
+        return false;
+    }
+    if a.count == 0 {
+        return false;
+    }
+    let ends = a.ends;
+    pick_found::follows(ends.high, f)
+}
+
 // The search after the next file f: it takes f and goes on, or ends. Requires: the next place is within the room, and the bytes fit 64 bits.
-fn swept(w: Sweep, q: Question, f: FileRecord) -> Sweep
+fn swept(w: Sweep, q: Question, edge: bool, f: FileRecord) -> Sweep
     requires { ⌜ (w .found .from + w .found .count < maxFiles) × (w .found .bytes + f .size < 2 ^ 64) ⌝ }
-    ensures { λ r. ⌜ Sweeps w q f r ⌝ }
+    ensures { λ r. ⌜ Sweeps w q edge f r ⌝ }
 {
     let found = w.found;
-    let span = q.span;
-    if !pick_found::is_taken(found.bytes, q.most, span.stop, f) {
+    if !takes_next(found, q, edge, f) {
         return Sweep {
             found: found,
             goes: false,
@@ -279,18 +334,30 @@ fn swept(w: Sweep, q: Question, f: FileRecord) -> Sweep
     }
 }
 
-// The files that a search takes from a place on: up to the first that begins after the range, or until their bytes are above the limit. Requires: the store has its
-// shape, the files that overlap the range stand side by side, and those that end before it are passed.
-fn taken(s: &Store, q: Question, lo: usize) -> FoundRun
-    requires { ⌜ StoreShape (now s) × Contiguous (now s .files) (q .from) (q .to) (spanOf (q .span)) × Passed (now s .files) (q .from) (q .to) (spanOf (q .span)) lo ⌝ }
-    ensures { λ r. ⌜ Finds q (now (s .entry) .files) (spanOf (q .span)) r ⌝ }
+// The files found and those that a search takes after them, by the rule, up to the first that it does not take. Internal. Requires: the store has its shape, the
+// places are within the room, and the bytes are bounded.
+pub fn taken(s: &Store, q: Question, a: FoundRun, edge: bool) -> FoundRun
+    requires { ⌜ StoreShape (now s) × Takable (now s .files) (q .to) a ⌝ }
+    ensures { λ r. ⌜ Takes (now (s .entry) .files) q edge a r ⌝ }
 {
-    let mut w = sweeping(lo, q.to);
+    let mut w = sweeping(a, q.to);
     while w.goes {
         let f = store::file_at(s, next_place(w));
-        w = swept(w, q, f);
+        w = swept(w, q, edge, f);
     }
     w.found
+}
+
+// The files that overlap the question's range, or at level 0 its least widening: passes the files that end before it by halves, then takes files up to the first
+// that begins after it. Requires: the store has its shape, the places are within the room, and the files that overlap stand side by side.
+fn overlap(s: &Store, q: Question) -> FoundRun
+    requires { ⌜ StoreShape (now s) × Findable (now s .files) q ⌝ }
+    ensures { λ r. ⌜ Overlaps (now (s .entry) .files) q r ⌝ }
+{
+    let w = widest(s, q);
+    let lo = passed(s, w);
+    let none = pick_found::nothing_at(lo);
+    taken(s, w, none, Sweep::BY_RANGE)
 }
 
 // Whether the grown files replace the first inputs: there are second inputs, the grown files are more in number, their bytes and the second inputs' together are
@@ -341,28 +408,27 @@ fn filled(c: Choice, k: usize, found: FoundRun) -> Choice
     d
 }
 
-// The pick after its k-th search: it passes the files that end before the range by halves, then takes files up to the first that begins after it. Requires: the
-// store has its shape and is well-formed, the level is one of the seven, k is below 5, and M and the bytes are within their bounds.
+// The pick after its k-th search: the files that overlap, completed by those that share an edge key. Requires: the store has its shape and is well-formed, the level
+// is one of the seven, k is below 5, and M and the bytes are within their bounds.
 fn searched(s: &Store, d: Choice, k: usize) -> Choice
     requires { ⌜ StoreShape (now s) × (wellStore (now s) ≡ true) × (d .level < levelCount) × (k < 5) × Weighed d ⌝ }
     ensures { λ r. ⌜ Searched (now (s .entry)) d k r ⌝ }
 {
     let q = asked(d, k, s.counts);
-    let w = widest(s, q);
-    let lo = passed(s, w);
-    let found = taken(s, w, lo);
-    filled(d, k, found)
+    let found = overlap(s, q);
+    let list = taken(s, q, found, Sweep::BY_EDGE);
+    filled(d, k, list)
 }
 
-// Makes the searches of a pick from the start-th up to the end-th. Internal. Requires: the store has its shape and is well-formed, the level, M and the searches are
-// in range, and the pick is ready for its start-th search.
-pub fn choose(s: &Store, c: Choice, start: usize, end: usize) -> Choice
-    requires { ⌜ StoreShape (now s) × Ready (now s) c start end ⌝ }
-    ensures { λ r. ⌜ Chooses (now (s .entry)) c start end r ⌝ }
+// Makes the searches of a pick from the start-th on. Internal. Requires: the store has its shape and is well-formed, the level and M are in range, and the pick is
+// ready for its start-th search.
+pub fn choose(s: &Store, c: Choice, start: usize) -> Choice
+    requires { ⌜ StoreShape (now s) × Ready (now s) c start ⌝ }
+    ensures { λ r. ⌜ Chooses (now (s .entry)) c start r ⌝ }
 {
     let mut d = c;
     let mut k = start;
-    while k < end {
+    while k < Choice::SEARCHES {
         d = searched(s, d, k);
         k += 1;
     }
@@ -415,14 +481,16 @@ pub fn laid(s: &Store, c: Choice) -> [FileRecord; Version::ROOM]
     out
 }
 
-// The searches of a pick on a store by value, and the chosen files. Internal. Requires: the store is well-formed, the level, M and the searches are in range, and
-// the pick is ready for its start-th search.
-pub fn chosen_of(s: Store, c: Choice, start: usize, end: usize) -> Chosen
-    requires { ⌜ Ready s c start end ⌝ }
-    ensures { λ r. ⌜ Chooses s c start end (r .choice) × (r .files ≡ laidChoice s (r .choice)) ⌝ }
+// The files of a level that overlap a range, not completed, of a store by value. Internal. Requires: the store is well-formed, and the level is one of the seven.
+pub fn overlap_of(s: Store, level: usize, span: Span) -> Chosen
+    requires { ⌜ (wellStore s ≡ true) × (level < levelCount) ⌝ }
+    ensures { λ r. ⌜ Lists s level span r ⌝ }
 {
     let t = s;
-    let d = choose(&t, c, start, end);
+    let c = asking(level, 0, span, FoundRun::ALL);
+    let q = asked(c, Choice::FIRST, t.counts);
+    let found = overlap(&t, q);
+    let d = filled(c, Choice::FIRST, found);
     let files = laid(&t, d);
     Chosen {
         files: files,
