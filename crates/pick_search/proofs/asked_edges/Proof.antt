@@ -1,5 +1,4 @@
 -- `pick_search::asked_edges` meets its contract. Assumes nothing.
-use mathlib.Core.Path.{_≡_}
 use borrow.Author.Tests.{ne-eqb}
 use Rattle.pick_search.specs.Choice.{askedEdges}
 use Rattle.pick_search.proofs.asked_edges.Statement.{statement}

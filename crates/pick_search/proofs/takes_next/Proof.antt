@@ -1,5 +1,4 @@
 -- `pick_search::takes_next` meets its contract. Assumes nothing.
-use mathlib.Core.Path.{_≡_, _∙_}
 use borrow.Author.Tests.{not-true, not-false, ne-eqb}
 use borrow.Author.Needs.{needs}
 use Rattle.pick_search.specs.Search.{takesNext}
@@ -13,7 +12,7 @@ returns : tie.Need-returns
 unfolding takesNext
 returns c =
     let i = c .before .before in
-    c .is-taken .ensures ∙ rw (not-true (i .before .args .edge) (i .if1 .taken))
+    rw (not-true (i .before .args .edge) (i .if1 .taken)) (c .is-taken .ensures)
 
 returns-2 : tie.Need-returns-2
 unfolding takesNext
@@ -40,7 +39,7 @@ returns-4 c =
     let j = k .before .before in
     let i = j .before .before in
     let a = i .before .args in
-    c .follows .ensures ∙ rw (not-false (a .edge) (i .if1 .left), not-false (a .q .edges) (j .if2 .left), ne-eqb (a .a .count) 0 (k .if3 .left))
+    rw (not-false (a .edge) (i .if1 .left), not-false (a .q .edges) (j .if2 .left), ne-eqb (a .a .count) 0 (k .if3 .left)) (c .follows .ensures)
 
 pub takes-next-spec : {M : Type 1} → statement M
 takes-next-spec = tie.close (tie.spec is-taken-requires returns returns-2 returns-3 follows-requires returns-4)
