@@ -56,7 +56,7 @@ module _ (files : List FileRecord) (from to : ℕ) where
         at-view fileOf from to files (i - from) past (fileOf past) (omega arith) q ∙ ap (λ (j : ℕ). fileOf (getD files j past)) e
 
     -- there are as many files as places
-    run-length : length (run from to files) ≡ to - from
+    pub run-length : length (run from to files) ≡ to - from
     unfolding run
     run-length = length-view fileOf from to files q
 
@@ -94,7 +94,7 @@ kept-same p o files (suc n) i e s q h =
     rw (run-turn i e files (omega arith) q, h i (omega arith) (omega arith), kept-same p o files n (i + 1) e (omega arith) q (λ j k l. h j (omega arith) l))
 
 -- a run with one file more
-run-more : (files : List FileRecord) (from i : ℕ) → from ≤ i → i < length files → run from (i + 1) files ≡ run from i files ++ (fileAt files i ∷ [])
+pub run-more : (files : List FileRecord) (from i : ℕ) → from ≤ i → i < length files → run from (i + 1) files ≡ run from i files ++ (fileAt files i ∷ [])
 unfolding fileAt
 run-more files from i h k =
     run-parts files from (i + 1) (omega arith) i h (omega arith)
