@@ -387,9 +387,9 @@ taken-rest most r files (suc n) i e s q h xs =
     (taken-rest most r files n (i + 1) e (omega arith) q (λ j k a. h j k (omega arith))) xs)
 
 -- the ends and bytes of no files
-pub none-summed : (files : List FileRecord) (i : ℕ) → Summed (run i i files) (noneAt i .ends) 0
+pub none-summed : (i : ℕ) → Summed [] (noneAt i .ends) (noneAt i .bytes)
 unfolding noneAt lowKey highKey find total sum
-none-summed files i = rw (run-ended i i files (omega arith)) record { low = keyOf-record [] (omega arith); high = keyOf-record [] (omega arith); bytes-are = refl }
+none-summed i = record { low = keyOf-record [] (omega arith); high = keyOf-record [] (omega arith); bytes-are = refl }
 
 -- from the place on that a search by halves has reached
 module _ (files : List FileRecord) (from to : ℕ) (r : Range) (s : Contiguous files from to r) (q : length files ≡ maxFiles) (lo : ℕ) (p : Passed files from to r lo) where
