@@ -20,7 +20,7 @@ use Rattle.pick_range.specs.Ranges.{spanOf}
 use Rattle.pick_found.specs.declared.FoundRun.{FoundRun}
 use Rattle.pick_found.specs.FoundRun.{fileAt, endsBefore, noneAt, Summed, Contiguous, Passed}
 use Rattle.pick_found.specs.FoundLaws.{summed-more}
-use Rattle.pick_found.specs.ContiguousLaws.{Halving, halving-up, halving-down, run-length, run-more}
+use Rattle.pick_found.specs.ContiguousLaws.{Halving, halving-up, halving-down, run-length, run-more, takesBy, none-summed, taken-overlap, rest-small}
 use Rattle.pick_search.specs.Choice.{Widest}
 use Rattle.bisect.specs.declared.Window.{Window}
 use Rattle.bisect.specs.Window.{midOf, halfOf}
@@ -227,15 +227,71 @@ module _ (files : List FileRecord) (q : Question) (edge : Bool) (a : FoundRun) (
 
 -- ---- the files that overlap a range: w is the question with the range to search by
 module _ (files : List FileRecord) (size : length files ≡ maxFiles) (q : Question) (z : Findable files q) (w : Question) (v : (w ≡ spanning q (w .span)) × Widest q files (spanOf (w .span))) where
+  -- the places start where the question's do
+  same-from : w .from ≡ q .from
+  unfolding spanning
+  same-from = ap (λ (x : Question). x .from) (v .0)
+
+  -- they end where the question's do
+  same-to : w .to ≡ q .to
+  unfolding spanning
+  same-to = ap (λ (x : Question). x .to) (v .0)
+
+  -- the limit is the question's
+  same-most : w .most ≡ q .most
+  unfolding spanning
+  same-most = ap (λ (x : Question). x .most) (v .0)
+
   -- they stand side by side
   pub overlap-contiguous : Contiguous files (w .from) (w .to) (spanOf (w .span))
-  overlap-contiguous = ?
+  overlap-contiguous = rw (same-from, same-to) (z .side (spanOf (w .span)) (v .1))
 
   module _ (lo : ℕ) (p : Passed files (w .from) (w .to) (spanOf (w .span)) lo) (a : FoundRun) (e : a ≡ noneAt lo) where
+    -- at first the next place is the one reached
+    none-next : a .from + a .count ≡ lo
+    unfolding noneAt
+    none-next =
+        let from : a .from ≡ lo = ap (λ (b : FoundRun). b .from) e in
+        let count : a .count ≡ 0 = ap (λ (b : FoundRun). b .count) e in
+        omega arith
+
+    -- and no files are found
+    none-found : run (a .from) (a .from + a .count) files ≡ []
+    unfolding noneAt
+    none-found =
+        let from : a .from ≡ lo = ap (λ (b : FoundRun). b .from) e in
+        let next = none-next in
+        run-ended (a .from) (a .from + a .count) files (omega arith)
+
     -- files can be taken from the place on that is reached
     pub overlap-takable : Takable files (w .to) a
-    overlap-takable = ?
+    unfolding noneAt
+    overlap-takable =
+        let next = none-next in
+        let last = p .most in
+        let bytes : a .bytes ≡ 0 = ap (λ (b : FoundRun). b .bytes) e in
+        record {
+          fits = omega arith;
+          room = overlap-contiguous .room;
+          sums = rw (none-found, e) (none-summed lo);
+          small = rw next (omega (arith, rest-small files (w .from) (w .to) (spanOf (w .span)) overlap-contiguous size lo p));
+        }
 
     -- those taken by the range are the ones that overlap
     pub overlap-found : (r : FoundRun) → Takes files w false a r → Overlaps files q r
-    overlap-found r g = ?
+    unfolding noneAt takesAfter spanOf
+    overlap-found r g =
+        let from = same-from in
+        let to = same-to in
+        let least = p .least in
+        let starts : r .from ≡ lo = g .starts ∙ ap (λ (b : FoundRun). b .from) e in
+        let fits = g .fits in
+        let takes : run (r .from) (r .from + r .count) files ≡ takeOn (takesBy (w .most) (spanOf (w .span) .stop)) [] (run lo (w .to) files) = rw (none-found, none-next) at (g .takes) in
+        record {
+          wide = spanOf (w .span);
+          widest = v .1;
+          finds = (
+            record { starts = omega arith; fits = omega arith; sums = g .sums },
+            takes ∙ taken-overlap files (w .from) (w .to) (spanOf (w .span)) overlap-contiguous size lo p (w .most) ∙ rw (from, to, same-most),
+          );
+        }
