@@ -1,22 +1,25 @@
 -- Laws of a pick from one search to the next: its start, one search more, and its end. Assumes nothing.
 use Prim.Native.Nat.{ℕ, zero, suc, _+_, _≤_, _<_}
 use mathlib.Core.Path.{_≡_, refl, sym, ap, _∙_}
-use mathlib.Core.Bool.{Bool, true, false, cond}
+use mathlib.Core.Bool.{Bool, true, false, not, _&&_, cond}
 use mathlib.Core.List.{List, [], _++_}
 use native.Mathlib.Omega.{arith}
-use lib.Dec.{ltb}
-use borrow.Author.Tests.{ltb-true, ltb-false}
+use lib.Dec.{eqb, ltb}
+use borrow.Author.Tests.{ltb-true, ltb-false, ne-eqb}
 use lib.ListN.{length, List·getD-eq-default}
 use Rattle.lemmas.specs.Lists.{keep, sum}
+use Rattle.model.specs.Completion.{completed, completedAt, inputs}
 use Rattle.model.specs.File.{File, full, level, total, setPointer, levelCount, maxBytes, maxFiles, maxWord}
+use Rattle.model.specs.Formed.{formed-says}
 use Rattle.model.specs.Pick as model
 use Rattle.model.specs.Pick.{upTo, grandOf}
-use Rattle.model.specs.PickLaws.{overlapping-sub}
+use Rattle.model.specs.PickLaws.{level-in-line, formed-sub, inputs-formed}
 use Rattle.model.specs.Range.{Range, overlapping, highKey, rangeOf}
 use Rattle.levels.specs.Levels.{levelsOf}
 use Rattle.levels.specs.LevelsLaws as levels
 use Rattle.store.specs.declared.Store.{Store}
 use Rattle.store.specs.Store.{stateOf, wellStore}
+use Rattle.store.specs.StoreLaws as store
 use Rattle.pick_range.specs.declared.Span.{Span}
 use Rattle.pick_range.specs.Ranges.{spanOf}
 use Rattle.pick_found.specs.declared.FoundRun.{FoundRun}
@@ -24,7 +27,7 @@ use Rattle.pick_found.specs.FoundRun.{noneAt, inputsOf, HeldAt, Known, Summed, 
 use Rattle.pick_found.specs.CallsLaws.{files-room}
 use Rattle.pick_found.specs.FoundLaws.{level-part, all-taken, held-count, known-range, known-joint}
 use Rattle.pick_search.specs.declared.Choice.{Choice}
-use Rattle.pick_search.specs.Choice.{begun, askedLevel, askedSpan, askedMost, growsBy, filledWith, foundBy, firsts, seconds, chosen, SearchInvariant}
+use Rattle.pick_search.specs.Choice.{begun, askedLevel, askedSpan, askedMost, askedEdges, growsBy, filledWith, overBy, foundBy, firsts, seconds, chosen, SearchInvariant}
 use Rattle.pick_search.specs.HeldLaws.{three-counts}
 use Rattle.pick_search.specs.CompleteLaws.{grows-by, grown, again, grown-by, no-grand, some-grand, complete-by}
 
@@ -111,6 +114,27 @@ unfolding overlapping keep
 overlapping-none zero r = refl
 overlapping-none (suc n) r = refl
 
+-- so none is an input
+inputs-none : (n : ℕ) (r : Range) → inputs n [] r ≡ []
+unfolding inputs completedAt completed overlapping keep
+inputs-none zero r = refl
+inputs-none (suc n) r = refl
+
+-- a search before the last completes its files above level 0
+completes : (n k : ℕ) (fs xs : List File) → k < 4 → cond (askedEdges n k) (completed fs xs) xs ≡ completedAt n fs xs
+unfolding askedEdges completedAt
+completes zero k fs xs h = refl
+completes (suc n) k fs xs h = rw (ne-eqb (suc n) 0 (λ e. omega arith), ne-eqb k 4 (λ e. omega arith))
+
+-- the last search leaves its files as they are
+stays : (n : ℕ) (xs ys : List File) → cond (askedEdges n 4) xs ys ≡ ys
+unfolding askedEdges
+stays n xs ys = go (eqb n 0)
+  where
+    go : (b : Bool) → cond (not b && not (eqb 4 4)) xs ys ≡ ys
+    go true = refl
+    go false = refl
+
 module _ (s : Store) (h : wellStore s ≡ true) (q : length (s .files) ≡ maxFiles) (p : length (s .counts) ≡ levelCount) where
   -- a level past the last has no files
   past-none : (n : ℕ) → levelCount ≤ n → level (stateOf s) n ≡ []
@@ -122,24 +146,36 @@ module _ (s : Store) (h : wellStore s ≡ true) (q : length (s .files) ≡ maxFi
   past-found n r k = ap (λ (fs : List File). overlapping n fs r) (past-none n k) ∙ overlapping-none n r
 
   -- with the largest number as limit, all files that overlap are taken
-  found-all : (n : ℕ) (fs : List File) (r w : Range) → fs ≡ upTo maxWord 0 (overlapping n (level (stateOf s) n) r) → r ≡ w → fs ≡ overlapping n (level (stateOf s) n) w
+  over-all : (n : ℕ) (fs : List File) (r w : Range) → fs ≡ upTo maxWord 0 (overlapping n (level (stateOf s) n) r) → r ≡ w → fs ≡ overlapping n (level (stateOf s) n) w
   unfolding upTo
-  found-all n fs r w e d = go (ltb n levelCount) refl
+  over-all n fs r w e d = go (ltb n levelCount) refl
     where
       go : (b : Bool) → ltb n levelCount ≡ b → fs ≡ overlapping n (level (stateOf s) n) w
       go true t = all-taken s n h (ltb-true n levelCount t) fs r w e d
       go false t = e ∙ ap (upTo maxWord 0) (past-found n r (ltb-false n levelCount t)) ∙ sym (past-found n w (ltb-false n levelCount t))
 
+  -- a search before the last with this limit finds the inputs of its range
+  found-all : (n k : ℕ) (xs : List File) (r w : Range) → k < 4
+      → xs ≡ cond (askedEdges n k) (completed (level (stateOf s) n) (upTo maxWord 0 (overlapping n (level (stateOf s) n) r))) (upTo maxWord 0 (overlapping n (level (stateOf s) n) r)) → r ≡ w
+      → xs ≡ inputs n (level (stateOf s) n) w
+  unfolding inputs
+  found-all n k xs r w l e d =
+      let fs = level (stateOf s) n in
+      let over = upTo maxWord 0 (overlapping n fs r) in
+      e ∙ completes n k fs over l ∙ ap (completedAt n fs) (over-all n over r w refl d)
+
   -- they have no more bytes than a full version
-  found-few : (n : ℕ) (r : Range) → total (overlapping n (level (stateOf s) n) r) ≤ maxBytes
+  found-few : (n : ℕ) (r : Range) → total (inputs n (level (stateOf s) n) r) ≤ maxBytes
   unfolding total sum
   found-few n r = go (ltb n levelCount) refl
     where
-      go : (b : Bool) → ltb n levelCount ≡ b → total (overlapping n (level (stateOf s) n) r) ≤ maxBytes
+      go : (b : Bool) → ltb n levelCount ≡ b → total (inputs n (level (stateOf s) n) r) ≤ maxBytes
       go true t =
-          let few = level-part s n h (ltb-true n levelCount t) (overlapping n (level (stateOf s) n) r) (overlapping-sub n (level (stateOf s) n) r) .1 in
+          let fs = level (stateOf s) n in
+          let line = level-in-line full (stateOf s) n (formed-says full (stateOf s) .0 (store.well-says s .0 h .formed)) in
+          let few = level-part s n h (ltb-true n levelCount t) (inputs n fs r) (formed-sub n fs (inputs n fs r) line (inputs-formed n fs r line)) .1 in
           omega arith
-      go false t = rw (past-found n r (ltb-false n levelCount t)) (omega arith)
+      go false t = let none : inputs n (level (stateOf s) n) r ≡ [] = ap (λ (fs : List File). inputs n fs r) (past-none n (ltb-false n levelCount t)) ∙ inputs-none n r in rw none (omega arith)
 
   module _ (fs : List File) (c : Choice) (f : FoundRun) where
     -- the result of the search
@@ -159,7 +195,7 @@ module _ (s : Store) (h : wellStore s ≡ true) (q : length (s .files) ≡ maxFi
       grand-none = λ a. g .grand-none (omega arith);
       asked = λ a. absurd (omega arith);
       first-sums = λ a. k .sums;
-      first-are = λ a b. e ∙ g .asked refl;
+      first-are = λ a b. e ∙ completes (c .level) 0 (level (stateOf s) (c .level)) (overBy s c 0) (omega arith) ∙ g .asked refl;
       second-sums = λ a. absurd (omega arith);
       second-are = λ a. absurd (omega arith);
       grown-held = λ a. absurd (omega arith);
@@ -174,7 +210,7 @@ module _ (s : Store) (h : wellStore s ≡ true) (q : length (s .files) ≡ maxFi
     unfolding filledWith askedLevel askedMost askedSpan
     next-second g k e =
         let range = known-range (c .first) s (c .level) (record { held = g .held-first; sums = g .first-sums (omega arith) }) ∙ ap rangeOf (g .first-are (omega arith) (omega arith)) in
-        let are = found-all (c .level + 1) (inputsOf s f) (spanOf (rangeFound (c .first))) (rangeOf fs) e range in
+        let are = found-all (c .level + 1) 1 (inputsOf s f) (spanOf (rangeFound (c .first))) (rangeOf fs) (omega arith) e range in
         record {
           held-first = g .held-first;
           held-second = k .held;
@@ -202,7 +238,7 @@ module _ (s : Store) (h : wellStore s ≡ true) (q : length (s .files) ≡ maxFi
         let first : Known s (c .level) (c .first) = record { held = g .held-first; sums = g .first-sums (omega arith) } in
         let second : Known s (c .level + 1) (c .second) = record { held = g .held-second; sums = g .second-sums (omega arith) } in
         let range : spanOf (jointFound (c .first) (c .second)) ≡ rangeOf (fs ++ seconds s fs c) = known-joint (c .first) (c .second) s (c .level) (c .level + 1) h q first second ∙ rw (g .first-are (omega arith) (omega arith), g .second-are (omega arith)) in
-        let are = found-all (c .level) (inputsOf s f) (spanOf (jointFound (c .first) (c .second))) (rangeOf (fs ++ seconds s fs c)) e range in
+        let are = found-all (c .level) 2 (inputsOf s f) (spanOf (jointFound (c .first) (c .second))) (rangeOf (fs ++ seconds s fs c)) (omega arith) e range in
         record {
           held-first = g .held-first;
           held-second = g .held-second;
@@ -237,7 +273,7 @@ module _ (s : Store) (h : wellStore s ≡ true) (q : length (s .files) ≡ maxFi
         let held : HeldAt s l (c .grown) = g .grown-held (omega arith) in
         let sums = g .grown-sums (omega arith) in
         let range = known-range (c .grown) s l (record { held = held; sums = sums }) ∙ ap rangeOf grown-are in
-        let again-are : inputsOf s f ≡ again t m l fs (seconds s fs c) = found-all (l + 1) (inputsOf s f) (spanOf (rangeFound (c .grown))) (rangeOf (grown t m l fs (seconds s fs c))) e range in
+        let again-are : inputsOf s f ≡ again t m l fs (seconds s fs c) = found-all (l + 1) 3 (inputsOf s f) (spanOf (rangeFound (c .grown))) (rangeOf (grown t m l fs (seconds s fs c))) (omega arith) e range in
         let test : b ≡ model.grows m fs (seconds s fs c) (grown t m l fs (seconds s fs c)) (again t m l fs (seconds s fs c)) = sym
         (grows-by m fs (seconds s fs c) (grown t m l fs (seconds s fs c)) (again t m l fs (seconds s fs c)) (c .first .count) (c .second .count) (c .grown .count) (f .count) (c .grown .bytes) (c .second .bytes)
         (sym (ap length first-are) ∙ held-count s l (c .first) h q (g .held-first)) (sym (ap length second-are) ∙ held-count s (l + 1) (c .second) h q (g .held-second))
@@ -281,7 +317,8 @@ module _ (s : Store) (h : wellStore s ≡ true) (q : length (s .files) ≡ maxFi
         let second : Known s (c .level + 1) (c .second) = record { held = g .held-second; sums = g .second-sums (omega arith) } in
         let range : spanOf (jointFound (c .first) (c .second)) ≡ rangeOf (chosen s fs c ++ seconds s fs c) = known-joint (c .first) (c .second) s (c .level) (c .level + 1) h q first second ∙ rw (g .chosen-are (omega arith), g .second-are (omega arith)) in
         let are : inputsOf s f ≡ overlapping (c .level + 2) (level (stateOf s) (c .level + 2)) (rangeOf (chosen s fs c ++ seconds s fs c)) =
-        found-all (c .level + 2) (inputsOf s f) (spanOf (jointFound (c .first) (c .second))) (rangeOf (chosen s fs c ++ seconds s fs c)) e range in
+        over-all (c .level + 2) (inputsOf s f) (spanOf (jointFound (c .first) (c .second))) (rangeOf (chosen s fs c ++ seconds s fs c))
+        (e ∙ stays (c .level + 2) (completed (level (stateOf s) (c .level + 2)) (overBy s c 4)) (overBy s c 4)) range in
         record {
           held-first = g .held-first;
           held-second = g .held-second;
