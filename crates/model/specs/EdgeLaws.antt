@@ -39,7 +39,7 @@ widened-none-shared fs r f g u m out i hf hg =
       },
     ))
 
--- so none has an older key
+-- so no file left has an older key of an input's last user key
 widened-none-left : (fs : List File) (r : Range) → ((f : File) → In f fs → before (f .largest) (f .smallest) ≡ false) → NoOlderLeft fs (overlapping 0 fs r)
 unfolding holds overlapping
 widened-none-left fs r good f g k m out i s a u =
@@ -60,14 +60,14 @@ pub record FormedPick (s : State) (c : Picked) : Type 0 where
   pub first : FormedAt (c .level) (level s (c .level)) (c .first)
   pub second : FormedAt (suc (c .level)) (level s (suc (c .level))) (c .second)
 
--- so they are
+-- the lists of a pick are so formed
 complete-formed : (p : Profile) (s : State) (m : ℕ) (c : Cause) (l : ℕ) (first : List File) → WF p s → FormedAt l (level s l) first → FormedPick s (complete p s m c l first .picked)
 unfolding complete
 complete-formed p s m c l first w h =
     let second = inputs (suc l) (level s (suc l)) (rangeOf first) in
     record { first = grown-formed s m l first second (level-in-line p s l w) h; second = inputs-formed (suc l) (level s (suc l)) (rangeOf first) (level-line p s l w) }
 
--- of a size pick
+-- those of a size pick
 pub size-pick-formed : (p : Profile) (s : State) (m : ℕ) (k : Pick) → sizePick p s m ≡ gives k → FormedPick s (k .picked)
 size-pick-formed p s m k h =
     let a = size-accepted p s m k h in
@@ -75,7 +75,7 @@ size-pick-formed p s m k h =
     subst (λ (x : Pick). FormedPick s (x .picked)) (a .result)
     (complete-formed p s m (bySize (reported (score s l))) l (sizeInputs l (pointer s l) (level s l)) (formed-says p s .0 (a .formed)) (size-formed l (pointer s l) (level s l)))
 
--- of a manual pick
+-- those of a manual pick
 pub range-pick-formed : (p : Profile) (s : State) (m l : ℕ) (a b : Key) (k : Pick) → manualPick p s m l a b ≡ gives k → FormedPick s (k .picked)
 range-pick-formed p s m l a b k h =
     let r = range-accepted p s m l a b k h in
