@@ -49,15 +49,19 @@ use Rattle.pick_search.proofs.overlap as overlap
 use Rattle.pick_search.proofs.taken as taken
 use Rattle.pick_search.proofs.filled as filled
 
+-- of places
 abbrev pub machP : Window → Val
 machP = LL.val P.the-type P′.the-laws
 
+-- of a question
 abbrev pub machQ : Question → Val
 machQ = LL.val Q.the-type Q′.the-laws
 
+-- of what a search has found
 abbrev pub machF : FoundRun → Val
 machF = LL.val F.the-type F′.the-laws
 
+-- of a choice
 abbrev pub machC : Choice → Val
 machC = LL.val C.the-type C′.the-laws
 

@@ -63,9 +63,11 @@ use Rattle.pick_search.proofs.choose.Statement as stated
 use Rattle.pick_search.proofs.choose.Code as code
 use Rattle.pick_search.proofs.choose.Code.Mir as mirs
 
+-- the arguments
 abbrev Arg : Type 0
 Arg = RefT Store × (Choice × (ℕ × Unit {0}))
 
+-- at exit nothing is kept of them
 abbrev stayed : Stays (choose.ended .signature .params) (choose.ended .kept)
 stayed = (stay-none-ref (0 ∷ []) tt (plain (λ _. S.the-row)) yes, (stay-none (λ _. C.the-row) yes, (stay-none (λ _. usize) yes, tt)))
 
@@ -83,15 +85,18 @@ module _ {M : Type 1} (𝓤 : URA M) (H : Heap 𝓤) (A : Atoms 𝓤) (at-mem : 
 
 module _ {M : Type 1} (𝓤 : URA M) (H : Heap 𝓤) (A : Atoms 𝓤) (W : Given 𝓤 H A) (at-mem : Memory → SProp 𝓤) (run : Routine → Fun 𝓤) (κ : Lft) (q : Share) (b o : ℕ) (γ : GName) (h : Store) (c : Choice) (start : ℕ)
     (is-c : Is C.the-row c (machC c ∷ [])) (start-fits : start < 2 ^ 64) (shape : StoreShape h) (ready : Ready h c start) where
+  -- the arguments, and their machine values
   abbrev x : Arg
   x = (lentAt b o γ h, (c, (start, tt)))
 
   abbrev at : Vals choose.signature (κ, tt)
   at = (vptr b o ∷ [], (machC c ∷ [], (vint w64 start ∷ [], tt)))
 
+  -- what is to hold at exit
   abbrev Post : Val → SProp 𝓤
   Post = walkOf 𝓤 H A choose.ended stayed (choose.clauses 𝓤 H A at-mem run) .post (((κ, tt), (q, tt), tt, x, at), tt)
 
+  -- what stands after the last statement gives that
   exits : (r : Choice) → Is C.the-row r (machC r ∷ []) → Chooses h c start r → ent 𝓤 (⋆ 𝓤 H A ((‵ (flft κ q) ⊛ ‵ ftrue) ∷ ‵ (Own κ b o γ h) ∷ [])) (Post (machC r))
   exits r is e =
       qed W ((‵ (flft κ q) ⊛ ‵ ftrue) ∷ ‵ (Own κ b o γ h) ∷ []) ∵
@@ -191,6 +196,7 @@ module _ {M : Type 1} (𝓤 : URA M) (H : Heap 𝓤) (A : Atoms 𝓤) (W : Given
       looped : (p : Part) → Sq W (At p) (runs C₀ Λ En mirs.t-3 (atRet En Post))
       looped p = first ! $ blocks ! $ loops ! 𝓣 Nearer Nearer-wf At turns p
 
+    -- statement by statement
     walk : ent 𝓤 (onEntry 𝓤 H A choose.signature (κ, tt) (q, tt) x at) (WpFn 𝓤 H (𝓣 .C) (𝓣 .Λ) code.function (vptr b o ∷ machC c ∷ vint w64 start ∷ []) Post)
     walk =
         qed W ((‵ (flft κ q) ⊛ ‵ ftrue) ∷ ‵ (owns (ShrRef (named 0) κ S.the-row ∷ C.the-row ∷ usize ∷ []) x at) ∷ []) ∵ enter ! (𝓣 .C) (𝓣 .Λ) code.function (vptr b o ∷ machC c ∷ vint w64 start ∷ []) _ $
@@ -202,12 +208,14 @@ module _ {M : Type 1} (𝓤 : URA M) (H : Heap 𝓤) (A : Atoms 𝓤) (W : Given
         looped l₀ l₁ l₂ l₃ l₄ l₅ l₆ (c, start, choose-starts h c start ready, is-c))))))))
 
 module _ {M : Type 1} (𝓤 : URA M) (H : Heap 𝓤) (A : Atoms 𝓤) (W : Given 𝓤 H A) (at-mem : Memory → SProp 𝓤) (run : Routine → Fun 𝓤) (𝓣 : Tables 𝓤 H) (known : Triple 𝓤 (𝓣 .C #pick-search·searched) (Search 𝓤 H A at-mem run)) where
+  -- the walk at all arguments
   choose-walks : Walks 𝓤 H A choose.ended stayed (WpFn 𝓤 H (𝓣 .C) (𝓣 .Λ) code.function) (choose.clauses 𝓤 H A at-mem run)
   choose-walks = walked 𝓤 H A choose.ended stayed (choose.clauses 𝓤 H A at-mem run) (WpFn 𝓤 H (𝓣 .C) (𝓣 .Λ) code.function)
       (λ κs. (ptr-vals, (LL.vals C.the-type C′.the-laws, (uint-vals w64, tt)))) (λ κs. (shr-tells (named 0) (κs .0) S.the-row, (LL.tells C.the-type C′.the-laws, (uint-tells w64, tt))))
       (λ κs qs bounds a g are. needs 𝓤 (StoreShape (a .0 .now) × Ready (a .0 .now) (a .1 .0) (a .1 .1 .0)) _
       (λ z. walk 𝓤 H A W at-mem run (κs .0) (qs .0) (a .0 .ptr .0) (a .0 .ptr .1) (a .0 .name) (a .0 .now) (a .1 .0) (a .1 .1 .0) (are .1 .0) (are .1 .1 .0 .1) (z .0) (z .1) 𝓣 known))
 
+  -- taken to the contract
   choose-meets : Meets 𝓤 H A choose.signature (WpFn 𝓤 H (𝓣 .C) (𝓣 .Λ) code.function) (choose.spec 𝓤 H A at-mem run)
   choose-meets =
       walk-meets 𝓤 H A choose.ended stayed W

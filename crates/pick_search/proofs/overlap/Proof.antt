@@ -73,9 +73,11 @@ use Rattle.pick_search.proofs.overlap as overlap
 use Rattle.pick_search.proofs.overlap.Statement as stated
 use Rattle.pick_search.proofs.overlap.Code as code
 
+-- the arguments
 abbrev Arg : Type 0
 Arg = RefT Store × (Question × Unit {0})
 
+-- at exit nothing is kept of them
 abbrev stayed : Stays (overlap.ended .signature .params) (overlap.ended .kept)
 stayed = (stay-none-ref (0 ∷ []) tt (plain (λ _. S.the-row)) yes, (stay-none (λ _. Q.the-row) yes, tt))
 
@@ -95,15 +97,18 @@ module _ {M : Type 1} (𝓤 : URA M) (H : Heap 𝓤) (A : Atoms 𝓤) (at-mem : 
   Nothing = tripleOf 𝓤 H A nothing-at.signature (nothing-at.spec 𝓤 H A at-mem run)
 
 module _ {M : Type 1} (𝓤 : URA M) (H : Heap 𝓤) (A : Atoms 𝓤) (W : Given 𝓤 H A) (at-mem : Memory → SProp 𝓤) (run : Routine → Fun 𝓤) (κ : Lft) (q : Share) (b o : ℕ) (γ : GName) (h : Store) (a : Question) (is-a : Is Q.the-row a (machQ a ∷ [])) where
+  -- the arguments, and their machine values
   abbrev x : Arg
   x = (lentAt b o γ h, (a, tt))
 
   abbrev at : Vals overlap.signature (κ, tt)
   at = (vptr b o ∷ [], (machQ a ∷ [], tt))
 
+  -- what is to hold at exit
   abbrev Post : Val → SProp 𝓤
   Post = walkOf 𝓤 H A overlap.ended stayed (overlap.clauses 𝓤 H A at-mem run) .post (((κ, tt), (q, tt), tt, x, at), tt)
 
+  -- what stands after the last statement gives that
   exits : (r : FoundRun) → Is F.the-row r (machF r ∷ []) → Overlaps (h .files) a r → ent 𝓤 (⋆ 𝓤 H A ((‵ (flft κ q) ⊛ ‵ ftrue) ∷ ‵ (Own κ b o γ h) ∷ [])) (Post (machF r))
   exits r is e =
       qed W ((‵ (flft κ q) ⊛ ‵ ftrue) ∷ ‵ (Own κ b o γ h) ∷ []) ∵
@@ -161,6 +166,7 @@ module _ {M : Type 1} (𝓤 : URA M) (H : Heap 𝓤) (A : Atoms 𝓤) (W : Given
 
   module _ (C : Calls 𝓤 H) (Λ : Loops 𝓤 H) (fm : FmC 𝓤 H (W .laws) C) (known-widest : Triple 𝓤 (C #pick-search·widest) (Widens 𝓤 H A at-mem run)) (known-passed : Triple 𝓤 (C #pick-search·passed) (Passes 𝓤 H A at-mem run))
       (known-nothing : Triple 𝓤 (C #pick-found·nothing-at) (Nothing 𝓤 H A at-mem run)) (known-taken : Triple 𝓤 (C #pick-search·taken) (Taken 𝓤 H A at-mem run)) where
+    -- statement by statement
     walk : Asks h a → ent 𝓤 (onEntry 𝓤 H A overlap.signature (κ, tt) (q, tt) x at) (WpFn 𝓤 H C Λ code.function (vptr b o ∷ machQ a ∷ []) Post)
     walk z =
         qed W ((‵ (flft κ q) ⊛ ‵ ftrue) ∷ ‵ (owns (ShrRef (named 0) κ S.the-row ∷ Q.the-row ∷ []) x at) ∷ []) ∵ enter ! C Λ code.function (vptr b o ∷ machQ a ∷ []) _ $
@@ -197,12 +203,14 @@ module _ {M : Type 1} (𝓤 : URA M) (H : Heap 𝓤) (A : Atoms 𝓤) (W : Given
 
 module _ {M : Type 1} (𝓤 : URA M) (H : Heap 𝓤) (A : Atoms 𝓤) (W : Given 𝓤 H A) (at-mem : Memory → SProp 𝓤) (run : Routine → Fun 𝓤) (𝓣 : Tables 𝓤 H) (known-widest : Triple 𝓤 (𝓣 .C #pick-search·widest) (Widens 𝓤 H A at-mem run))
     (known-passed : Triple 𝓤 (𝓣 .C #pick-search·passed) (Passes 𝓤 H A at-mem run)) (known-nothing : Triple 𝓤 (𝓣 .C #pick-found·nothing-at) (Nothing 𝓤 H A at-mem run)) (known-taken : Triple 𝓤 (𝓣 .C #pick-search·taken) (Taken 𝓤 H A at-mem run)) where
+  -- the walk at all arguments
   overlap-walks : Walks 𝓤 H A overlap.ended stayed (WpFn 𝓤 H (𝓣 .C) (𝓣 .Λ) code.function) (overlap.clauses 𝓤 H A at-mem run)
   overlap-walks = walked 𝓤 H A overlap.ended stayed (overlap.clauses 𝓤 H A at-mem run) (WpFn 𝓤 H (𝓣 .C) (𝓣 .Λ) code.function)
       (λ κs. (ptr-vals, (LL.vals Q.the-type Q′.the-laws, tt))) (λ κs. (shr-tells (named 0) (κs .0) S.the-row, (LL.tells Q.the-type Q′.the-laws, tt)))
       (λ κs qs bounds a g are. needs 𝓤 (Asks (a .0 .now) (a .1 .0)) _
       (walk 𝓤 H A W at-mem run (κs .0) (qs .0) (a .0 .ptr .0) (a .0 .ptr .1) (a .0 .name) (a .0 .now) (a .1 .0) (are .1 .0) (𝓣 .C) (𝓣 .Λ) (fmOf 𝓤 H (W .laws) 𝓣) known-widest known-passed known-nothing known-taken))
 
+  -- taken to the contract
   overlap-meets : Meets 𝓤 H A overlap.signature (WpFn 𝓤 H (𝓣 .C) (𝓣 .Λ) code.function) (overlap.spec 𝓤 H A at-mem run)
   overlap-meets =
       walk-meets 𝓤 H A overlap.ended stayed W (goes-none-ref 𝓤 H A W 1 (0 ∷ []) tt (plain (λ _. S.the-row)) yes, (goes-none 𝓤 H A W 1 (λ _. Q.the-row) yes (λ κs x f. refl), tt)) (overlap.clauses 𝓤 H A at-mem run)

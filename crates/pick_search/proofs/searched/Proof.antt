@@ -75,9 +75,11 @@ use Rattle.pick_search.proofs.searched as searched
 use Rattle.pick_search.proofs.searched.Statement as stated
 use Rattle.pick_search.proofs.searched.Code as code
 
+-- the arguments
 abbrev Arg : Type 0
 Arg = RefT Store × (Choice × (ℕ × Unit {0}))
 
+-- at exit nothing is kept of them
 abbrev stayed : Stays (searched.ended .signature .params) (searched.ended .kept)
 stayed = (stay-none-ref (0 ∷ []) tt (plain (λ _. S.the-row)) yes, (stay-none (λ _. C.the-row) yes, (stay-none (λ _. usize) yes, tt)))
 
@@ -86,15 +88,18 @@ abbrev Asks : Store → Choice → ℕ → Type 0
 Asks h d k = StoreShape h × (wellStore h ≡ true) × (d .level < levelCount) × (k < 5) × Weighed d
 
 module _ {M : Type 1} (𝓤 : URA M) (H : Heap 𝓤) (A : Atoms 𝓤) (W : Given 𝓤 H A) (at-mem : Memory → SProp 𝓤) (run : Routine → Fun 𝓤) (κ : Lft) (q : Share) (b o : ℕ) (γ : GName) (h : Store) (d : Choice) (k : ℕ) (is-d : Is C.the-row d (machC d ∷ [])) (k-fits : k < 2 ^ 64) where
+  -- the arguments, and their machine values
   abbrev x : Arg
   x = (lentAt b o γ h, (d, (k, tt)))
 
   abbrev at : Vals searched.signature (κ, tt)
   at = (vptr b o ∷ [], (machC d ∷ [], (vint w64 k ∷ [], tt)))
 
+  -- what is to hold at exit
   abbrev Post : Val → SProp 𝓤
   Post = walkOf 𝓤 H A searched.ended stayed (searched.clauses 𝓤 H A at-mem run) .post (((κ, tt), (q, tt), tt, x, at), tt)
 
+  -- what stands after the last statement gives that
   exits : (r : Choice) → Is C.the-row r (machC r ∷ []) → Searched h d k r → ent 𝓤 (⋆ 𝓤 H A ((‵ (flft κ q) ⊛ ‵ ftrue) ∷ ‵ (Own κ b o γ h) ∷ [])) (Post (machC r))
   exits r is e =
       qed W ((‵ (flft κ q) ⊛ ‵ ftrue) ∷ ‵ (Own κ b o γ h) ∷ []) ∵
@@ -104,6 +109,7 @@ module _ {M : Type 1} (𝓤 : URA M) (H : Heap 𝓤) (A : Atoms 𝓤) (W : Given
 
   module _ (C₀ : Calls 𝓤 H) (Λ : Loops 𝓤 H) (fm : FmC 𝓤 H (W .laws) C₀) (known-asked : Triple 𝓤 (C₀ #pick-search·asked) (Asked 𝓤 H A at-mem run)) (known-overlap : Triple 𝓤 (C₀ #pick-search·overlap) (Overlap 𝓤 H A at-mem run))
       (known-taken : Triple 𝓤 (C₀ #pick-search·taken) (Taken 𝓤 H A at-mem run)) (known-filled : Triple 𝓤 (C₀ #pick-search·filled) (Filled 𝓤 H A at-mem run)) where
+    -- statement by statement
     walk : Asks h d k → ent 𝓤 (onEntry 𝓤 H A searched.signature (κ, tt) (q, tt) x at) (WpFn 𝓤 H C₀ Λ code.function (vptr b o ∷ machC d ∷ vint w64 k ∷ []) Post)
     walk z =
         qed W ((‵ (flft κ q) ⊛ ‵ ftrue) ∷ ‵ (owns (ShrRef (named 0) κ S.the-row ∷ C.the-row ∷ usize ∷ []) x at) ∷ []) ∵ enter ! C₀ Λ code.function (vptr b o ∷ machC d ∷ vint w64 k ∷ []) _ $
@@ -149,6 +155,7 @@ module _ {M : Type 1} (𝓤 : URA M) (H : Heap 𝓤) (A : Atoms 𝓤) (W : Given
 
 module _ {M : Type 1} (𝓤 : URA M) (H : Heap 𝓤) (A : Atoms 𝓤) (W : Given 𝓤 H A) (at-mem : Memory → SProp 𝓤) (run : Routine → Fun 𝓤) (𝓣 : Tables 𝓤 H) (known-asked : Triple 𝓤 (𝓣 .C #pick-search·asked) (Asked 𝓤 H A at-mem run)) (known-overlap : Triple 𝓤 (𝓣 .C #pick-search·overlap) (Overlap 𝓤 H A at-mem run))
     (known-taken : Triple 𝓤 (𝓣 .C #pick-search·taken) (Taken 𝓤 H A at-mem run)) (known-filled : Triple 𝓤 (𝓣 .C #pick-search·filled) (Filled 𝓤 H A at-mem run)) where
+  -- the walk at all arguments
   searched-walks : Walks 𝓤 H A searched.ended stayed (WpFn 𝓤 H (𝓣 .C) (𝓣 .Λ) code.function) (searched.clauses 𝓤 H A at-mem run)
   searched-walks = walked 𝓤 H A searched.ended stayed (searched.clauses 𝓤 H A at-mem run) (WpFn 𝓤 H (𝓣 .C) (𝓣 .Λ) code.function)
       (λ κs. (ptr-vals, (LL.vals C.the-type C′.the-laws, (uint-vals w64, tt)))) (λ κs. (shr-tells (named 0) (κs .0) S.the-row, (LL.tells C.the-type C′.the-laws, (uint-tells w64, tt))))
@@ -156,6 +163,7 @@ module _ {M : Type 1} (𝓤 : URA M) (H : Heap 𝓤) (A : Atoms 𝓤) (W : Given
       (walk 𝓤 H A W at-mem run (κs .0) (qs .0) (a .0 .ptr .0) (a .0 .ptr .1) (a .0 .name) (a .0 .now) (a .1 .0) (a .1 .1 .0) (are .1 .0) (are .1 .1 .0 .1) (𝓣 .C) (𝓣 .Λ) (fmOf 𝓤 H (W .laws) 𝓣)
       known-asked known-overlap known-taken known-filled))
 
+  -- taken to the contract
   searched-meets : Meets 𝓤 H A searched.signature (WpFn 𝓤 H (𝓣 .C) (𝓣 .Λ) code.function) (searched.spec 𝓤 H A at-mem run)
   searched-meets =
       walk-meets 𝓤 H A searched.ended stayed W (goes-none-ref 𝓤 H A W 1 (0 ∷ []) tt (plain (λ _. S.the-row)) yes, (goes-none 𝓤 H A W 1 (λ _. C.the-row) yes (λ κs x f. refl), (goes-none 𝓤 H A W 1 (λ _. usize) yes (λ κs x f. refl), tt))) (searched.clauses 𝓤 H A at-mem run)
