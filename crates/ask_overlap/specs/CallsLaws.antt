@@ -11,7 +11,7 @@ use Rattle.lemmas.specs.Lists.{any, join}
 use Rattle.lemmas.specs.ListLaws.{join-length, sub-length}
 use Rattle.model.specs.Answer.{gives, refused, Refusal, _⇒_, firstOf}
 use Rattle.model.specs.Calls as calls
-use Rattle.model.specs.File.{File, State, full, level, wellFormed, levelCount, maxFiles, maxWord}
+use Rattle.model.specs.File.{File, State, full, level, wellFormed, levelCount, maxFiles}
 use Rattle.model.specs.Formed.{formed-says}
 use Rattle.model.specs.Key.{goodKey, goodUser}
 use Rattle.model.specs.PickLaws.{overlapping-sub}
@@ -22,16 +22,14 @@ use Rattle.levels.specs.Levels.{laidOut}
 use Rattle.store.specs.declared.Store.{Store}
 use Rattle.store.specs.Store.{stateOf, wellStore, onStore}
 use Rattle.store.specs.StoreLaws as store
-use Rattle.pick_range.specs.declared.Span.{Span}
-use Rattle.pick_range.specs.Ranges.{spanOf}
 use Rattle.level_list.specs.declared.FileList.{FileList}
 use Rattle.level_list.specs.List.{listOf}
 use Rattle.pick_found.specs.declared.FoundRun.{FoundRun}
 use Rattle.pick_found.specs.FoundRun.{startAt, endAt, inputsOf}
-use Rattle.pick_found.specs.FoundLaws.{all-taken, held-count}
+use Rattle.pick_found.specs.FoundLaws.{held-count}
 use Rattle.pick_found.specs.CallsLaws.{asked-ill, asked-beyond, asked-key, asked-on, level-run}
 use Rattle.pick_search.specs.declared.Choice.{Choice}
-use Rattle.pick_search.specs.Choice.{begun, firsts, SearchInvariant, laidChoice}
+use Rattle.pick_search.specs.Choice.{SearchInvariant, laidChoice}
 
 -- ---- 13 never applies
 -- no level has more files than the room
@@ -111,18 +109,12 @@ module _ (s : Store) (n : ℕ) (a b : List ℕ) where
         asked-on s n keys tooLong found h k g ∙ rw (le-ltb (full .room) (length (found (stateOf s))) fits)
 
 -- ---- the list that one search gives
--- the first inputs of a pick without a byte limit are all files that overlap its range
-pub asked-all : (s : Store) (n m : ℕ) → wellStore s ≡ true → n < levelCount → (r : Span) (w : Range) → spanOf r ≡ w
-    → firsts s 0 (begun n m r maxWord) ≡ overlapping n (level (stateOf s) n) w
-unfolding firsts begun
-asked-all s n m h k r w e = all-taken s n h k (firsts s 0 (begun n m r maxWord)) (spanOf r) w refl e
-
 -- a run of no places has no files
 none-found : (s : Store) (f : FoundRun) → f .count ≡ 0 → inputsOf s f ≡ []
 unfolding inputsOf
 none-found s f e = run-ended (f .from) (f .from + f .count) (s .files) (omega arith)
 
--- after the first search of a pick its files are the first inputs alone
+-- after one search its files are the first inputs alone
 pub one-listed : (s : Store) → wellStore s ≡ true → length (s .files) ≡ maxFiles → (fs : List File) (c : Choice) → SearchInvariant s fs 1 c
     → (l : FileList) → l .files ≡ laidChoice s c → l .count ≡ c .first .count → l ≡ listOf fs
 unfolding laidChoice laidOut listOf join

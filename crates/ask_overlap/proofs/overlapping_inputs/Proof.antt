@@ -2,13 +2,12 @@
 use Prim.Native.Nat.{_<_}
 use mathlib.Core.Path.{_≡_, refl, sym, ap, subst, _∙_}
 use mathlib.Core.Bool.{true}
-use mathlib.Core.List.{List}
 use native.Mathlib.Omega.{arith}
 use borrow.Author.Tests.{not-true, not-false}
 use Rattle.lemmas.specs.ListLaws.{both}
-use Rattle.model.specs.File.{File, full, level, levelCount, maxWord}
+use Rattle.model.specs.File.{full, level, levelCount}
 use Rattle.model.specs.Key.{goodKey}
-use Rattle.model.specs.Range.{between, overlapping}
+use Rattle.model.specs.Range.{Range, between, overlapping}
 use Rattle.answers.specs.Outcome.{outcomeOf}
 use Rattle.answers.specs.declared.Outcome.the-variants.{Done}
 use Rattle.keys.specs.Key.{keyOf}
@@ -19,9 +18,8 @@ use Rattle.store.proofs.Shape as store-shape
 use Rattle.pick_range.specs.Ranges.{spanOf}
 use Rattle.pick_range.specs.RangesLaws.{span-between}
 use Rattle.pick_found.specs.CallsLaws.{wrong-left, wrong-right}
-use Rattle.pick_search.specs.Choice.{begun, firsts, SearchInvariant}
-use Rattle.pick_search.specs.InvariantLaws.{invariant-begun}
-use Rattle.ask_overlap.specs.CallsLaws.{inputs-ill, inputs-beyond, inputs-key, inputs-done, asked-all, one-listed}
+use Rattle.pick_search.specs.Choice.{SearchInvariant}
+use Rattle.ask_overlap.specs.CallsLaws.{inputs-ill, inputs-beyond, inputs-key, inputs-done, one-listed}
 use borrow.Author.Needs.{needs}
 use Rattle.ask_overlap.proofs.overlapping_inputs.Statement.{statement}
 use Rattle.ask_overlap.proofs.overlapping_inputs.Tie as tie
@@ -94,44 +92,33 @@ returns-4 c =
 between-requires : tie.Need-between-requires
 between-requires c κs = search needs
 
-asking-requires : tie.Need-asking-requires
-asking-requires c κs = search needs
+overlap-of-requires : tie.Need-overlap-of-requires
+overlap-of-requires c κs =
+    let u = c .before .before .before .before .before in
+    (well (u .before), under u)
 
-chosen-of-requires : tie.Need-chosen-of-requires
-unfolding begun
-chosen-of-requires c κs =
-    let b = c .before in
-    let u = b .before .before .before .before .before in
-    let e = u .before in
-    let a = e .before .before .args in
-    rw (c .asking .ensures)
-    record { well = well e; level = under u; maximum = omega arith; order = omega arith; last = omega arith; stands = invariant-begun (a .s) (a .level) 0 maxWord (b .between .result) }
-
--- the first inputs are the level's files that overlap
-chosen : (c : tie.After-chosen-of) → let a = c .before .before .before .before .before .before .before .before .before .before .args in
-    SearchInvariant (a .s) (overlapping (a .level) (level (stateOf (a .s)) (a .level)) (between (keyOf (a .start)) (keyOf (a .stop)))) 1 (c .chosen-of .result .choice)
+-- the files found are the level's files that overlap
+chosen : (c : tie.After-overlap-of) → let a = c .before .before .before .before .before .before .before .before .before .args in
+    SearchInvariant (a .s) (overlapping (a .level) (level (stateOf (a .s)) (a .level)) (between (keyOf (a .start)) (keyOf (a .stop)))) 1 (c .overlap-of .result .choice)
 chosen c =
-    let d = c .before in
-    let b = d .before in
-    let u = b .before .before .before .before .before in
-    let e = u .before in
-    let a = e .before .before .args in
-    let all = asked-all (a .s) (a .level) 0 (well e) (under u) (b .between .result) (between (keyOf (a .start)) (keyOf (a .stop))) (ap spanOf (b .between .ensures) ∙ span-between (a .start) (a .stop)) in
-    subst (λ (fs : List File). SearchInvariant (a .s) fs 1 (c .chosen-of .result .choice)) (ap (firsts (a .s) 0) (d .asking .ensures) ∙ all) (c .chosen-of .ensures .0 .stands)
+    let b = c .before in
+    let a = b .before .before .before .before .before .before .before .before .args in
+    let span : spanOf (b .between .result) ≡ between (keyOf (a .start)) (keyOf (a .stop)) = ap spanOf (b .between .ensures) ∙ span-between (a .start) (a .stop) in
+    subst (λ (r : Range). SearchInvariant (a .s) (overlapping (a .level) (level (stateOf (a .s)) (a .level)) r) 1 (c .overlap-of .result .choice)) span (c .overlap-of .ensures .stands)
 
 returns-5 : tie.Need-returns-5
 unfolding listed outcomeOf
 returns-5 c =
     let o = c .before in
-    let f = o .before .before .before in
+    let f = o .before .before in
     let u = f .before .before .before .before in
     let e = u .before in
     let start = e .before .before in
     let a = start .args in
     let keys = both (goodKey (full .longest) (keyOf (a .start))) (goodKey (full .longest) (keyOf (a .stop))) (start-good (f .before .before)) (sym (f .before .is-good2 .ensures) ∙ not-false (f .before .is-good2 .result) (f .if4 .left)) in
     let fs = overlapping (a .level) (level (stateOf (a .s)) (a .level)) (between (keyOf (a .start)) (keyOf (a .stop))) in
-    let r = o .chosen-of .result in
-    let files = one-listed (a .s) (well e) (store-shape.shape (a .s) _ (start .good .0) .files) fs (r .choice) (chosen o) (record { files = r .files; count = r .choice .first .count }) (o .chosen-of .ensures .1) refl in
+    let r = o .overlap-of .result in
+    let files = one-listed (a .s) (well e) (store-shape.shape (a .s) _ (start .good .0) .files) fs (r .choice) (chosen o) (record { files = r .files; count = r .choice .first .count }) (o .overlap-of .ensures .files) refl in
     ap (λ (l : FileList). record { outcome = Done; list = l }) files
     ∙ ap listed (sym (inputs-done (a .s) (a .level) (keyOf (a .start)) (keyOf (a .stop)) (well e) (under u) keys))
 
@@ -151,6 +138,5 @@ overlapping-inputs-spec =
     nothing-requires-4
     returns-4
     between-requires
-    asking-requires
-    chosen-of-requires
+    overlap-of-requires
     returns-5)
