@@ -1,4 +1,4 @@
-"""Scripts that seek edges, with the answers to expect: the Rust's, or document 01's where the two differ.
+"""Scripts that seek edges, with the answers to expect: the Rust's, or the documents' where the two differ.
 
 A script is a list of (line, answer, mark). The Rust answers while the script is made, so that a compaction can follow its pick.
 `mark` is empty where the answer is the Rust's, else it names the row of docs/DIFFERENCES.md or the refusal; such a line is not put to the Rust,
@@ -6,11 +6,14 @@ except where the row is about its answer alone."""
 import random
 import subprocess
 
-from paper import File, State, good, key, order, user
+from paper import File, State, good, key, order, pick_line, stop_line, user
 
 SIZES = [0, 1, 2, 3, 100, 16383, 16384, 1638400, 1654783, 1654784, 2097151, 2097152, 2097153, 10485759, 10485760,
          10485761, 20971519, 20971520, 20971521, 26214400, 52428799, 104857599, 104857600, 1048576000, 10485760000,
          104857600000, 2**40]
+
+# the mark of an answer that the rule of files that share an edge key changes
+EDGES = 'request 2 (D19)'
 
 
 class Rust:
@@ -26,7 +29,7 @@ class Rust:
 
 
 class Gen:
-    def __init__(self, seed, rust, length):
+    def __init__(self, seed, rust, length, rows=False):
         r = self.r = random.Random(seed)
         self.rust, self.length = rust, length
         self.s = State()
@@ -51,6 +54,11 @@ class Gen:
         self.levels = r.choice([[0, 0, 0, 1, 1, 1, 2, 2, 3, 3, 4, 5, 6], [0], [0, 0, 1, 1, 2], [1, 2, 3],
                                 [1, 1, 1, 2, 2, 2, 3, 3], [2, 3, 4], [3, 4, 5], [4, 5, 6], [5, 6]])
         self.m = r.choice([2097152, 2097152, 2097152, 1, 100, 1048576, 2**32])
+        # in some scripts files stand in rows, whose neighbours often share the user key where one ends and the next begins
+        self.rows = r.choice([.12, .2] if rows else [0, 0, 0, .12, .2])
+        if self.rows:
+            self.seqs = list(range(r.choice([6, 12, 40])))
+            self.users = self.users[:r.choice([2, 3, 6, 40])]
 
     # ---- lines
     def both(self, line):
@@ -173,17 +181,39 @@ class Gen:
                 items.append(('a', l, File(self.number(), self.size(), key(us[j], 5), key(us[j + 1], 5))))
         self.put_edit([i for i in items[:64]])
 
+    def row(self):
+        """Files side by side at a level, from keys that stand close."""
+        r, l = self.r, self.r.choice([1, 1, 1, 2, 2, 3, 4, 5, 6])
+        ks = sorted({order(k): k for k in (self.key() for _ in range(r.choice([4, 8, 16, 30])))}.values(), key=order)
+        items = []
+        while len(ks) > 1:
+            n = r.choice([1, 2, 2, 2, 3])
+            one, ks = ks[:n], ks[n:]
+            i = ('a', l, File(self.number(), self.size(), one[0], one[-1]))
+            if r.random() < .9 and self.fits(items + [i]):
+                items.append(i)
+        self.put_edit(items[:64])
+
     # ---- picks
-    def pick(self, line):
+    def pick(self, line, span=None):
         a = self.rust.ask(line)
         if a == 'none':
             self.out.append((line, 'refused 10', ''))
             return
-        self.out.append((line, a, ''))
         w = dict(x.split('=', 1) for x in a.split())
-        l = int(w['level'])
+        l, cause = int(w['level']), w['cause']
+        plain = pick_line(l, self.m, cause, self.s.picked(l, self.m, span, edges=False))
+        if plain != a:
+            raise SystemExit('paper.py and the Rust differ at a pick that completes no list:\n%s\n%s\n%s' % (line, plain, a))
+        lists = self.s.picked(l, self.m, span)
+        own = pick_line(l, self.m, cause, lists)
+        self.out.append((line, own, '' if own == a else EDGES))
+        w = dict(x.split('=', 1) for x in own.split())
         self.s.ptrs[l] = bytes.fromhex(w['ptr'])
-        self.picked, self.asked = w, b''
+        if own != a:
+            # the Rust is given the pointer that the completed list leaves
+            self.rust.ask('edit p,%d,%s' % (l, w['ptr']))
+        self.picked, self.asked, self.grand, self.alike = w, b'', lists[2], own == a
         if self.r.random() < .6:
             self.stop()
         if self.r.random() < .6:
@@ -204,7 +234,11 @@ class Gen:
         ks = [self.key() for _ in range(self.r.randrange(1, 7))]
         if self.r.random() < .7:
             ks.sort(key=order)
-        self.both('stop ' + ' '.join(self.word(k) for k in ks))
+        line, own = 'stop ' + ' '.join(self.word(k) for k in ks), stop_line(self.m, self.grand, ks)
+        a = self.rust.ask(line)
+        if self.alike and a != own:
+            raise SystemExit('paper.py and the Rust differ:\n%s\n%s\n%s' % (line, own, a))
+        self.out.append((line, own, '' if own == a else EDGES))
 
     def base(self):
         us = sorted(u for u in (self.r.choice(self.users) for _ in range(self.r.randrange(1, 5))) if u >= self.asked)
@@ -229,7 +263,7 @@ class Gen:
             return self.pick(q)
         if q == 'range':
             line = 'range %d %s %s' % (l, self.word(a), self.word(b))
-            return self.ours(line, 'refused 11', 'D10') if l == 6 else self.pick(line)
+            return self.ours(line, 'refused 11', 'D10') if l == 6 else self.pick(line, (a, b))
         if q == 'overlap':
             return self.both('overlap %d %s %s' % (l, self.word(a), self.word(b)))
         if q == 'inlevel':
@@ -298,6 +332,8 @@ class Gen:
             x = self.r.random()
             if filling and x < .2:
                 self.grow()
+            elif self.rows and x < .2 + self.rows:
+                self.row()
             elif x < .35:
                 self.edit()
             elif x < .36:

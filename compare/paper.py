@@ -1,5 +1,5 @@
-"""Document 01's rules of edits, snapshots and a few questions, in Python: what the generator needs to know which
-edits are accepted, and what to expect where document 01 and the Rust differ."""
+"""Document 01's rules of edits, picks, snapshots and a few questions, and document 02's of files that share an edge key, in Python: what the
+generator needs to know which edits are accepted, and what to expect where the documents and the Rust differ."""
 import struct
 
 ROOM, LEVELS, TOP = 256, 7, 2**56 - 1
@@ -126,3 +126,102 @@ class State:
 
     def find(self, l, k):
         return next((str(i) for i, f in enumerate(self.files[l]) if order(f.large) >= order(k)), 'none')
+
+    # ---- picks
+    def overlapping(self, l, a, b):
+        """The level's files that overlap a range of user keys, in level order; at level 0 its least widening."""
+        fs = [f for f in self.files[l] if f.meets(a, b)]
+        while l == 0 and fs:
+            low, high = min([a] + [user(f.small) for f in fs]), max([b] + [user(f.large) for f in fs])
+            if (low, high) == (a, b):
+                break
+            a, b = low, high
+            fs = [f for f in self.files[l] if f.meets(a, b)]
+        return fs
+
+    def completed(self, l, fs):
+        """Request 2: above level 0 the file whose smallest key follows the list's largest with the same user key is added, until there is none."""
+        fs = list(fs)
+        while l > 0 and fs:
+            high = largest(fs)
+            after = [f for f in self.files[l] if order(f.small) > order(high)]
+            if not after or user(after[0].small) != user(high):
+                break
+            fs.append(after[0])
+        return fs
+
+    def started(self, l):
+        """The file that a size pick starts with."""
+        p = self.ptrs[l]
+        return next((f for f in self.files[l] if p is not None and order(f.large) > order(p)), self.files[l][0])
+
+    def picked(self, l, m, span=None, edges=True):
+        """First inputs, second inputs and grandparents of a pick at a level with maximum m; span has the two keys of a manual pick. Without
+        edges no list is completed, as in the Rust."""
+        formed = self.completed if edges else lambda l, fs: fs
+
+        def inputs(l, fs):
+            return formed(l, self.overlapping(l, *ends(fs)))
+
+        first = [self.started(l)] if span is None else self.overlapping(l, user(span[0]), user(span[1]))
+        if span is None and l == 0:
+            first = self.overlapping(0, *ends(first))
+        if span is not None and l > 0:
+            first = up_to(m, first)
+        first = formed(l, first)
+        second = inputs(l + 1, first)
+        if second:
+            grown = inputs(l, first + second)
+            small = total(grown) + total(second) < 25 * m
+            if len(grown) > len(first) and small and len(inputs(l + 1, grown)) == len(second):
+                first = grown
+        grand = self.overlapping(l + 2, *ends(first + second)) if l + 2 < LEVELS else []
+        return first, second, grand
+
+
+def total(fs):
+    return sum(f.size for f in fs)
+
+
+def largest(fs):
+    """The largest key of some files; among equal ones the first file's."""
+    return max((f.large for f in fs), key=order)
+
+
+def ends(fs):
+    """The range of some files, as user keys."""
+    return user(min((f.small for f in fs), key=order)), user(largest(fs))
+
+
+def up_to(m, fs):
+    """The files up to the first that brings the total above m."""
+    for i in range(len(fs)):
+        if total(fs[:i + 1]) > m:
+            return fs[:i + 1]
+    return fs
+
+
+def pick_line(l, m, cause, lists):
+    """The shell's answer line of a pick."""
+    first, second, grand = lists
+
+    def nums(fs):
+        return ','.join(str(f.num) for f in fs) or '-'
+
+    trivial = cause != 'manual' and len(first) == 1 and not second and total(grand) < 10 * m
+    gone = ','.join('%d:%d' % (l + i, f.num) for i in (0, 1) for f in lists[i])
+    return 'level=%d cause=%s in0=%s in1=%s gp=%s manual=%d trivial=%d ptr=%s edel=%s' % (
+        l, cause, nums(first), nums(second), nums(grand), cause == 'manual', trivial, largest(first).hex(), gone)
+
+
+def stop_line(m, grand, keys):
+    """The shell's answer line of `stop` after a pick with these grandparents."""
+    at, passed, seen, out = 0, 0, False, []
+    for k in keys:
+        while at < len(grand) and order(grand[at].large) < order(k):
+            passed += grand[at].size if seen else 0
+            at += 1
+        seen, cut = True, passed > 10 * m
+        passed = 0 if cut else passed
+        out.append('%s:%d:%d:1' % ('y' if cut else 'n', at, passed))
+    return ' '.join(out)

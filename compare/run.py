@@ -1,10 +1,11 @@
 #!/usr/bin/env python3
 """Runs scripts on the Rust and on the shell and prints each kind of difference with its smallest case.
 
-  compare/run.py RUST SHELL [COMMANDS [FIRST_SEED]]
+  compare/run.py [--rows] RUST SHELL [COMMANDS [FIRST_SEED]]
 
 RUST is compare/build.sh's `rust`, SHELL a command that runs the shell (its words separated by blanks). COMMANDS is how many commands to run at least
-(100000 if not given). A script's answers are those of the Rust, and document 01's where the two differ (gen.py says which)."""
+(100000 if not given). With --rows files stand in rows in every script, whose neighbours often share the user key where one ends and the next begins; without it in two of
+five. A script's answers are those of the Rust, and the documents' where the two differ (gen.py says which)."""
 import collections
 import subprocess
 import sys
@@ -34,16 +35,18 @@ def shrunk(shell, script, at):
 
 
 def main():
-    rust, shell = Rust(sys.argv[1]), sys.argv[2].split()
-    wanted = int(sys.argv[3]) if len(sys.argv) > 3 else 100000
-    seed = int(sys.argv[4]) if len(sys.argv) > 4 else 1
+    args = [a for a in sys.argv[1:] if a != '--rows']
+    rows = len(args) < len(sys.argv) - 1
+    rust, shell = Rust(args[0]), args[1].split()
+    wanted = int(args[2]) if len(args) > 2 else 100000
+    seed = int(args[3]) if len(args) > 3 else 1
     commands, marks, kinds, smallest = 0, collections.Counter(), collections.Counter(), {}
     words, refusals = collections.Counter(), collections.Counter()
     global told_at
     while commands < wanted:
         scripts = []
         while sum(map(len, scripts)) < 5000:
-            scripts.append(Gen(seed, rust, LENGTHS[seed % len(LENGTHS)]).script())
+            scripts.append(Gen(seed, rust, LENGTHS[seed % len(LENGTHS)], rows).script())
             seed += 1
         flat = [x for s in scripts for x in s]
         got, status = told(shell, [l for l, _, _ in flat])

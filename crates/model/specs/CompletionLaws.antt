@@ -25,7 +25,7 @@ pub record Older (k a : Key) : Type 0 where
   pub after : before a k ≡ true
   pub same-user : user k ≡ user a
 
--- the test says just that
+-- the test says exactly that
 pub older-says : (k a : Key) → olderThan k a ≡ true ↔ Older k a
 unfolding olderThan
 older-says k a =
@@ -40,13 +40,13 @@ pub record Spans (f : File) (k : Key) : Type 0 where
   pub low : before k (f .smallest) ≡ false
   pub high : before (f .largest) k ≡ false
 
--- the test says just that
+-- the test says exactly that
 pub spans-says : (f : File) (k : Key) → spans f k ≡ true ↔ Spans f k
 unfolding spans
 spans-says f k = let a = before k (f .smallest) in let b = before (f .largest) k in
     (λ h. record { low = neither-left a b h; high = neither-right a b h }, λ o. both (not a) (not b) (rw (o .low)) (rw (o .high)))
 
--- what it says that a file follows a key
+-- a file follows a key exactly if its smallest key does
 pub follows-says : (k : Key) (f : File) → follows k f ≡ true ↔ Older (f .smallest) k
 unfolding follows
 follows-says k f = older-says (f .smallest) k
@@ -61,7 +61,7 @@ pub not-after : (k : Key) (f : File) → before k (f .smallest) ≡ false → fo
 unfolding follows olderThan
 not-after k f h = rw h
 
--- nor does one whose smallest has a later user key
+-- a file whose smallest key has a later user key does not follow it either
 other-user : (k : Key) (f : File) → userBefore (user k) (user (f .smallest)) ≡ true → follows k f ≡ false
 unfolding follows olderThan
 other-user k f h = go (before k (f .smallest))
@@ -70,7 +70,7 @@ other-user k f h = go (before k (f .smallest))
     go true = rw h
     go false = refl
 
--- one that starts after it and does not follow it has a later user key
+-- a file that starts after the key and does not follow it has a later user key
 later-user : (k : Key) (f : File) → before k (f .smallest) ≡ true → follows k f ≡ false → userBefore (user k) (user (f .smallest)) ≡ true
 unfolding follows olderThan
 later-user k f h n = go (userBefore (user k) (user (f .smallest))) refl
@@ -87,29 +87,29 @@ starts-rise f g a b = go (before (g .smallest) (f .smallest)) refl
     go false q = q
     go true q = clash (before-order .trans (f .largest) (g .smallest) (f .smallest) a q) b
 
--- and ends first
+-- the first ends first too
 ends-fall : (f g : File) → before (f .largest) (g .smallest) ≡ true → before (g .largest) (g .smallest) ≡ false → before (g .largest) (f .largest) ≡ false
 ends-fall f g a b = asym before before-order (f .largest) (g .largest) (lt-le before before-order (f .largest) (g .smallest) (g .largest) a b)
 
 -- ---- the largest key as files are added
--- going on from the largest key so far
+-- the largest key of two lists, going on from the largest so far
 pub largest-append : (k : Key) (xs ys : List File) → largestOf k (xs ++ ys) ≡ largestOf (largestOf k xs) ys
 unfolding largestOf
 largest-append k [] ys = refl
 largest-append k (x ∷ xs) ys = largest-append (cond (before k (x .largest)) (x .largest) k) xs ys
 
--- of a list and more files
+-- the largest key of a list and more files after it
 pub high-append : (x : File) (xs ys : List File) → highKey ((x ∷ xs) ++ ys) ≡ largestOf (highKey (x ∷ xs)) ys
 high-append x xs ys = high-fold x (xs ++ ys) ∙ largest-append (x .largest) xs ys ∙ ap (λ (k : Key). largestOf k ys) (sym (high-fold x xs))
 
 -- ---- the files that follow
--- none where no file follows the key
+-- there are none if no file follows the key
 pub following-none : (k : Key) (fs : List File) → ((f : File) → In f fs → follows k f ≡ false) → following k fs ≡ []
 unfolding following push
 following-none k [] h = refl
 following-none k (f ∷ fs) h = rw (h f (here refl)) (following-none k fs (λ g m. h g (there m)))
 
--- files that do not follow are passed
+-- files in front that do not follow are passed over
 pub following-skip : (k : Key) (xs ys : List File) → ((f : File) → In f xs → follows k f ≡ false) → following k (xs ++ ys) ≡ following k ys
 unfolding following push
 following-skip k [] ys h = refl
@@ -127,7 +127,7 @@ pub record Front (k : Key) (fs : List File) : Type 0 where
   pub is : fs ≡ following k fs ++ rest
   pub ends : (f : File) → In f rest → follows (largestOf k (following k fs)) f ≡ false
 
--- so it is in a level in line
+-- a level in line whose files all start after the key has such a front
 pub following-front : (k : Key) (fs : List File) → Line fs → ((f : File) → In f fs → before k (f .smallest) ≡ true) → Front k fs
 unfolding following push largestOf
 following-front k [] l h = record { rest = []; is = refl; ends = λ f m. absurd (not-nil m) }
@@ -159,7 +159,7 @@ following-front k (f ∷ fs) l h = go (following-front (f .largest) fs (line-res
 pub in-not-after : (fs : List File) (x : File) (xs : List File) → Line fs → Run fs (x ∷ xs) → (f : File) → In f (x ∷ xs) → before (highKey (x ∷ xs)) (f .smallest) ≡ false
 in-not-after fs x xs l r f m = before-order .ntrans (highKey (x ∷ xs)) (f .largest) (f .smallest) (highest x xs .greatest f m) (l .good f (sub-in f (run-sub r) m))
 
--- nor does one to its left
+-- no file to its left does either
 pub left-not-after : (fs : List File) (x : File) (xs : List File) → Line fs → (r : Run fs (x ∷ xs)) → (f : File) → In f (r .left) → before (highKey (x ∷ xs)) (f .smallest) ≡ false
 left-not-after fs x xs l r f m = go (before (highKey (x ∷ xs)) (f .smallest)) refl
   where
@@ -172,7 +172,7 @@ left-not-after fs x xs l r f m = go (before (highKey (x ∷ xs)) (f .smallest)) 
         let a = le-lt before before-order (f .smallest) (f .largest) (x .smallest) good (run-after-left fs (x ∷ xs) r f x l m (here refl)) in
         clash (before-order .trans (highKey (x ∷ xs)) (f .smallest) (x .smallest) e a) (in-not-after fs x xs l r x (here refl))
 
--- each one to its right does
+-- each file to its right does
 pub right-after : (fs : List File) (x : File) (xs : List File) → Line fs → (r : Run fs (x ∷ xs)) → (f : File) → In f (r .right) → before (highKey (x ∷ xs)) (f .smallest) ≡ true
 right-after fs x xs l r f m = let h = highest x xs in rw (h .is) (run-before-right fs (x ∷ xs) r (h .file) f l (h .among) m)
 
@@ -230,7 +230,7 @@ ended fs x xs l r =
       ends = run-closed fs x (xs ++ more) l wide (λ f m. rw (high-append x xs more) (front .ends f m));
     }
 
--- the completed list of a run of neighbours is one
+-- the completed list of a run of neighbours is a run of neighbours
 pub completed-run : (fs xs : List File) → Line fs → Run fs xs → Run fs (completed fs xs)
 unfolding completed
 completed-run fs [] l r = r
@@ -242,7 +242,7 @@ unfolding completed
 completed-contains fs [] f m = m
 completed-contains fs (x ∷ xs) f m = in-left (following (highKey (x ∷ xs)) fs) m
 
--- it is empty just where the list is
+-- it is empty exactly if the list is
 pub completed-empty : (fs xs : List File) → isEmpty (completed fs xs) ≡ isEmpty xs
 unfolding completed isEmpty
 completed-empty fs [] = refl
@@ -293,14 +293,14 @@ completed-least fs (x ∷ xs) (z ∷ zs) l e r c h f m = go (append-cases (x ∷
     go (inl n) = h f n
     go (inr n) = following-within fs z zs l r c (highest x xs .file) (h (highest x xs .file) (highest x xs .among)) fs (λ g i. i) f (top n)
 
--- the words leave one list: a run that contains the list, is closed, and is within every such run, is the completed list
+-- the least closed list: a run of neighbours that contains the list, after which no file follows, and that is within every such run
 pub record LeastClosed (fs xs ys : List File) : Type 0 where
   pub run : Run fs ys
   pub contains : (f : File) → In f xs → In f ys
   pub closed : NoneFollows fs ys
   pub least : (zs : List File) → Run fs zs → ((f : File) → In f xs → In f zs) → NoneFollows fs zs → (f : File) → In f ys → In f zs
 
--- the completed list is it
+-- the completed list is one
 pub completed-is : (fs xs : List File) → Line fs → Run fs xs → isEmpty xs ≡ false → LeastClosed fs xs (completed fs xs)
 completed-is fs xs l r e = record {
   run = completed-run fs xs l r;
@@ -316,14 +316,14 @@ same-parts fs xs ys l s t h k =
     let b = sub-within (line-once fs l) t s k in
     sub-same a (omega (arith, sub-length a, sub-length b))
 
--- and nothing else is
+-- no other list is
 pub one-completion : (fs xs ys : List File) → Line fs → Run fs xs → isEmpty xs ≡ false → LeastClosed fs xs ys → ys ≡ completed fs xs
 one-completion fs xs ys l r e c =
     let d = completed-is fs xs l r e in
     same-parts fs ys (completed fs xs) l (run-sub (c .run)) (run-sub (d .run))
     (c .least (completed fs xs) (d .run) (d .contains) (d .closed)) (d .least ys (c .run) (c .contains) (c .closed))
 
--- a run with more files has a completed list with more
+-- the completed list of a run with more files has no fewer
 pub completed-more : (fs xs ys : List File) → Line fs → Run fs xs → Run fs ys → ((f : File) → In f xs → In f ys) → Sub (completed fs xs) (completed fs ys)
 unfolding completed isEmpty
 completed-more fs [] ys l r t h = sub-none (completed fs ys)
@@ -340,7 +340,7 @@ pub taller : (k : Key) (f : File) → before k (f .largest) ≡ true → largest
 unfolding largestOf
 taller k f h = rw h
 
--- the first that follows, and then what follows its largest in the whole level
+-- the first file that follows, then what follows its largest key in the whole level
 next : (fs : List File) (k : Key) (f : File) → Line fs → find (follows k) fs ≡ some f → following k fs ≡ f ∷ following (f .largest) fs
 unfolding following push find
 next [] k f l e = let z : true ≡ false = cc in clash refl z
@@ -357,13 +357,13 @@ next (g ∷ gs) k f l e = go (next gs k f (line-rest g gs l)) (follows k g) refl
         let n : follows (f .largest) g ≡ false = not-after (f .largest) g (before-order .ntrans (f .largest) (f .smallest) (g .smallest) (l .good f (there m)) (starts-rise g f (line-first g f gs l m) (l .good g (here refl)))) in
         rw n (ih e)
 
--- where no file follows the list's largest key with the same user key, nothing is added
+-- if no file follows the list's largest key with the same user key, nothing is added
 pub completed-ends : (fs xs : List File) → find (follows (highKey xs)) fs ≡ none → completed fs xs ≡ xs
 unfolding completed
 completed-ends fs [] e = refl
 completed-ends fs (x ∷ xs) e = rw (following-none (highKey (x ∷ xs)) fs (λ f m. find-none (follows (highKey (x ∷ xs))) fs f e m)) (append-nil (x ∷ xs))
 
--- where one does it is added, and the list so made is completed
+-- if one does, the first that does is added, and the list with it is completed
 pub completed-adds : (fs xs : List File) (f : File) → Line fs → isEmpty xs ≡ false → find (follows (highKey xs)) fs ≡ some f → completed fs xs ≡ completed fs (xs ++ (f ∷ []))
 unfolding completed isEmpty
 completed-adds fs [] f l h e = clash refl h
@@ -384,7 +384,7 @@ following-on x xs (f ∷ fs) l h = go (follows (highKey (x ∷ xs)) f) refl (fol
     start : before (highKey (x ∷ xs)) (f .smallest) ≡ true
     start = h f (here refl)
 
-    -- with the file added its largest key is the list's
+    -- with the file added, its largest key is the largest of all
     high : highKey (x ∷ (xs ++ (f ∷ []))) ≡ f .largest
     high = high-append x xs (f ∷ []) ∙ taller (highKey (x ∷ xs)) f (lt-le before before-order (highKey (x ∷ xs)) (f .smallest) (f .largest) start (l .good f (here refl)))
 
@@ -400,7 +400,7 @@ completed-on fs x xs l r =
     completed-right fs x xs l r ∙ ap (λ (zs : List File). (x ∷ xs) ++ zs) (following-on x xs (r .right) (right-line fs (x ∷ xs) l r) (λ f m. right-after fs x xs l r f m))
 
 -- ---- the overlapping files of a level in line are a run of neighbours
--- from a file that is not left of the range on, they are a front
+-- if no file ends before the range, those that overlap stand in front
 overlapping-front : (fs : List File) (r : Range) → Line fs → ((f : File) → In f fs → userBefore (user (f .largest)) (r .start) ≡ false) → (rest : List File) × (fs ≡ keep (overlaps r) fs ++ rest)
 unfolding keep push
 overlapping-front [] r l h = ([], refl)
@@ -420,7 +420,7 @@ overlapping-front (f ∷ fs) r l h = go (overlapping-front fs r (line-rest f fs 
     go ih true e = (ih .0, ap (λ (zs : List File). f ∷ zs) (ih .1))
     go ih false e = let z = keep-none (overlaps r) fs (later e) in (f ∷ fs, rw z)
 
--- so it is
+-- the files of a level in line that overlap a range are a run of neighbours
 pub overlapping-run : (l : ℕ) (fs : List File) (r : Range) → Line fs → Run fs (overlapping (suc l) fs r)
 unfolding overlapping keep push
 overlapping-run l [] r i = run-none []
@@ -444,7 +444,7 @@ inputs-run l fs r i = completed-run fs (overlapping (suc l) fs r) i (overlapping
 abbrev pub NoOlderLeft : List File → List File → Type 0
 NoOlderLeft fs xs = (f g : File) (k : Key) → In f fs → (In f xs → ⊥) → In g xs → spans f k ≡ true → before (g .largest) k ≡ true → user k ≡ user (g .largest) → ⊥
 
--- so it is with a closed run of neighbours
+-- a run of neighbours after which no file follows leaves none
 pub closed-none-left : (fs xs : List File) → Line fs → Run fs xs → NoneFollows fs xs → NoOlderLeft fs xs
 closed-none-left fs [] l r c f g k m out i s a u = not-nil i
 closed-none-left fs (x ∷ xs) l r c f g k m out i s a u = go (side r f m)
@@ -464,7 +464,7 @@ closed-none-left fs (x ∷ xs) l r c f g k m out i s a u = go (side r f m)
         let w = userBefore-order .ntrans (user top) (user k) (user (f .smallest)) v (before-user (f .smallest) k (sp .low)) in
         clash (follows-is top f (right-after fs x xs l r f j) w) (c f m)
 
--- with a completed run
+-- a completed run of neighbours leaves none
 pub completed-none-left : (fs xs : List File) → Line fs → Run fs xs → NoOlderLeft fs (completed fs xs)
 unfolding completed isEmpty
 completed-none-left fs [] l r = λ f g k m out i s a u. not-nil i

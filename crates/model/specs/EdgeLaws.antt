@@ -1,4 +1,5 @@
--- The promise of completed lists: after an accepted pick no file left at the compacted level, nor at the next, has an older key of an input's last user key. Assumes nothing.
+-- Laws of completed lists in picks, and their promise: after an accepted pick no file left at the compacted level, nor at the next, has in its range an older key of
+-- an input's last user key. Assumes nothing.
 use Prim.Native.Nat.{ℕ, zero, suc}
 use mathlib.Core.Path.{_≡_, refl, sym, subst}
 use mathlib.Core.Bool.{true, false}
@@ -7,10 +8,10 @@ use Rattle.lemmas.specs.ListLaws.{keep-in, join-in, neither, neither-left, neit
 use Rattle.model.specs.Key.{Key, user, userBefore, before}
 use Rattle.model.specs.KeyLaws.{userBefore-order, before-user}
 use Rattle.model.specs.Answer.{gives}
-use Rattle.model.specs.File.{Profile, File, State, level, pointer}
+use Rattle.model.specs.File.{Profile, File, State, level, pointer, setPointer}
 use Rattle.model.specs.Edit.{Deletion}
 use Rattle.model.specs.Score.{score, levelToCompact, reported}
-use Rattle.model.specs.Range.{Range, between, overlaps, widen, overlapping, rangeOf}
+use Rattle.model.specs.Range.{Range, between, overlaps, widen, overlapping, highKey, rangeOf}
 use Rattle.model.specs.Completion.{inputs}
 use Rattle.model.specs.Pick.{sizeInputs, manualInputs, Cause, bySize, manual, Picked, Pick, grandOf, complete, sizePick, manualPick, inputDeletions}
 use Rattle.model.specs.Question.{holds}
@@ -18,7 +19,7 @@ use Rattle.model.specs.RangeLaws.{overlaps-says, inside-says, widen-leas
 use Rattle.model.specs.Formed.{WF, formed-says, goodFile-order}
 use Rattle.model.specs.LineLaws.{level-line}
 use Rattle.model.specs.CompletionLaws.{spans-says, NoOlderLeft, completed-none-left}
-use Rattle.model.specs.PickLaws.{size-accepted, range-accepted, FormedAt, InLine, level-in-line, inputs-formed, size-formed, manual-formed, grown-formed}
+use Rattle.model.specs.PickLaws.{size-accepted, range-accepted, pick-after-size, pick-after-range, FormedAt, InLine, level-in-line, inputs-formed, size-formed, manual-formed, grown-formed}
 
 -- ---- at level 0, by the widening
 -- no file left has a user key in common with an input
@@ -38,7 +39,7 @@ widened-none-shared fs r f g u m out i hf hg =
       },
     ))
 
--- so none has an older key
+-- so no file left has an older key of an input's last user key
 widened-none-left : (fs : List File) (r : Range) → ((f : File) → In f fs → before (f .largest) (f .smallest) ≡ false) → NoOlderLeft fs (overlapping 0 fs r)
 unfolding holds overlapping
 widened-none-left fs r good f g k m out i s a u =
@@ -49,6 +50,7 @@ widened-none-left fs r good f g k m out i s a u =
     (neither (userBefore (user k) (user (g .smallest))) (userBefore (user (g .largest)) (user k)) (rw u own) (rw u (userBefore-order .irrefl (user (g .largest)))))
 
 -- ---- at any level
+-- a list that is so formed leaves none
 pub formed-none-left : (l : ℕ) (fs xs : List File) → ((f : File) → In f fs → before (f .largest) (f .smallest) ≡ false) → InLine l fs → FormedAt l fs xs → NoOlderLeft fs xs
 formed-none-left zero fs xs good i h = subst (λ (zs : List File). NoOlderLeft fs zs) (sym (h .1)) (widened-none-left fs (h .0) good)
 formed-none-left (suc l) fs xs good i h = subst (λ (zs : List File). NoOlderLeft fs zs) (sym (h .2)) (completed-none-left fs (h .0) i (h .1))
@@ -58,14 +60,14 @@ pub record FormedPick (s : State) (c : Picked) : Type 0 where
   pub first : FormedAt (c .level) (level s (c .level)) (c .first)
   pub second : FormedAt (suc (c .level)) (level s (suc (c .level))) (c .second)
 
--- so they are
+-- the lists of a pick are so formed
 complete-formed : (p : Profile) (s : State) (m : ℕ) (c : Cause) (l : ℕ) (first : List File) → WF p s → FormedAt l (level s l) first → FormedPick s (complete p s m c l first .picked)
 unfolding complete
 complete-formed p s m c l first w h =
     let second = inputs (suc l) (level s (suc l)) (rangeOf first) in
     record { first = grown-formed s m l first second (level-in-line p s l w) h; second = inputs-formed (suc l) (level s (suc l)) (rangeOf first) (level-line p s l w) }
 
--- of a size pick
+-- those of a size pick
 pub size-pick-formed : (p : Profile) (s : State) (m : ℕ) (k : Pick) → sizePick p s m ≡ gives k → FormedPick s (k .picked)
 size-pick-formed p s m k h =
     let a = size-accepted p s m k h in
@@ -73,7 +75,7 @@ size-pick-formed p s m k h =
     subst (λ (x : Pick). FormedPick s (x .picked)) (a .result)
     (complete-formed p s m (bySize (reported (score s l))) l (sizeInputs l (pointer s l) (level s l)) (formed-says p s .0 (a .formed)) (size-formed l (pointer s l) (level s l)))
 
--- of a manual pick
+-- those of a manual pick
 pub range-pick-formed : (p : Profile) (s : State) (m l : ℕ) (a b : Key) (k : Pick) → manualPick p s m l a b ≡ gives k → FormedPick s (k .picked)
 range-pick-formed p s m l a b k h =
     let r = range-accepted p s m l a b k h in
@@ -82,13 +84,13 @@ range-pick-formed p s m l a b k h =
     (complete-formed p s m manual l (manualInputs m l (level s l) (between a b)) w (manual-formed m l (level s l) (between a b) (level-in-line p s l w)))
 
 -- ---- the promise
--- no file left at the compacted level has in its range a key that sorts after a first input's largest with the same user key;
--- none left at the next level has one that so sorts after a second input's largest
+-- no file left at the compacted level has in its range a key that sorts after a first input's largest with the same user key. None left at the next level has one that
+-- so sorts after a second input's largest
 pub record NoneLeft (s : State) (c : Picked) : Type 0 where
   pub first : NoOlderLeft (level s (c .level)) (c .first)
   pub second : NoOlderLeft (level s (suc (c .level))) (c .second)
 
--- what is formed so keeps it
+-- a pick whose lists are so formed keeps it
 pick-none-left : (p : Profile) (s : State) (c : Picked) → WF p s → FormedPick s c → NoneLeft s c
 unfolding level
 pick-none-left p s c w h = record {
@@ -96,26 +98,33 @@ pick-none-left p s c w h = record {
   second = formed-none-left (suc (c .level)) (level s (suc (c .level))) (c .second) (λ f i. goodFile-order p f (w .good f (join-in (s .files) (suc (c .level)) f i))) (level-line p s (c .level) w) (h .second);
 }
 
+-- a pointer that is set moves no file
+pointed-none-left : (s : State) (l : ℕ) (x : Key) (c : Picked) → NoneLeft s c → NoneLeft (setPointer s l x) c
+unfolding setPointer level
+pointed-none-left s l x c h = record { first = h .first; second = h .second }
+
 -- after an accepted size pick
-pub size-none-left : (p : Profile) (s : State) (m : ℕ) (k : Pick) → sizePick p s m ≡ gives k → NoneLeft s (k .picked)
-size-none-left p s m k h = pick-none-left p s (k .picked) (formed-says p s .0 (size-accepted p s m k h .formed)) (size-pick-formed p s m k h)
+pub size-none-left : (p : Profile) (s : State) (m : ℕ) (k : Pick) → sizePick p s m ≡ gives k → NoneLeft (k .after) (k .picked)
+size-none-left p s m k h = subst (λ (t : State). NoneLeft t (k .picked)) (sym (pick-after-size p s m k h))
+    (pointed-none-left s (k .picked .level) (highKey (k .picked .first)) (k .picked) (pick-none-left p s (k .picked) (formed-says p s .0 (size-accepted p s m k h .formed)) (size-pick-formed p s m k h)))
 
 -- after an accepted manual pick
-pub range-none-left : (p : Profile) (s : State) (m l : ℕ) (a b : Key) (k : Pick) → manualPick p s m l a b ≡ gives k → NoneLeft s (k .picked)
-range-none-left p s m l a b k h = pick-none-left p s (k .picked) (formed-says p s .0 (range-accepted p s m l a b k h .formed)) (range-pick-formed p s m l a b k h)
+pub range-none-left : (p : Profile) (s : State) (m l : ℕ) (a b : Key) (k : Pick) → manualPick p s m l a b ≡ gives k → NoneLeft (k .after) (k .picked)
+range-none-left p s m l a b k h = subst (λ (t : State). NoneLeft t (k .picked)) (sym (pick-after-range p s m l a b k h))
+    (pointed-none-left s (k .picked .level) (highKey (k .picked .first)) (k .picked) (pick-none-left p s (k .picked) (formed-says p s .0 (range-accepted p s m l a b k h .formed)) (range-pick-formed p s m l a b k h)))
 
--- at level 0 more: no file left has any user key in common with a first input
+-- at level 0 more holds: no file left has any user key in common with a first input
 pub level-0-none-shared : (s : State) (c : Picked) → FormedPick s c → c .level ≡ 0 → (f g : File) (u : List ℕ) → In f (level s 0) → (In f (c .first) → ⊥) → In g (c .first) → holds u f ≡ true → holds u g ≡ true → ⊥
 level-0-none-shared s c h z f g u m out i hf hg =
     let q : FormedAt 0 (level s 0) (c .first) = subst (λ (l : ℕ). FormedAt l (level s l) (c .first)) z (h .first) in
     widened-none-shared (level s 0) (q .0) f g u m (λ j. out (subst (λ (zs : List File). In f zs) (sym (q .1)) j)) (subst (λ (zs : List File). In g zs) (q .1) i) hf hg
 
--- what the input deletions do not name is left: the promise, read from them
+-- a file that the input deletions do not name is left: so the promise is read from them
 pub unnamed-left : (c : Picked) (f : File) → (In {A = Deletion} (record { level = c .level; number = f .number }) (inputDeletions c) → ⊥) → In f (c .first) → ⊥
 unfolding inputDeletions
 unnamed-left c f out i = out (in-left (map (λ (g : File). record { level = suc (c .level); number = g .number }) (c .second)) (in-map (λ (g : File). record { level = c .level; number = g .number }) i))
 
--- ---- grandparents and the pointer go by the completed lists; grandparents themselves are not completed
+-- ---- grandparents go by the completed lists, and are not completed themselves
 complete-grand : (p : Profile) (s : State) (m : ℕ) (c : Cause) (l : ℕ) (first : List File)
     → complete p s m c l first .picked .grand ≡ grandOf p s l (rangeOf (complete p s m c l first .picked .first ++ complete p s m c l first .picked .second))
 unfolding complete

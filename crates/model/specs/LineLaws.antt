@@ -22,7 +22,7 @@ pub record Line (fs : List File) : Type 0 where
   pub good : (f : File) → In f fs → before (f .largest) (f .smallest) ≡ false
   pub ordered : apart fs ≡ true
 
--- without the first
+-- the files after the first are in line
 pub line-rest : (f : File) (fs : List File) → Line (f ∷ fs) → Line fs
 line-rest f fs l = record { good = λ g m. l .good g (there m); ordered = chain-rest (λ (f g : File). before (f .largest) (g .smallest)) f fs (l .ordered) }
 
@@ -32,7 +32,7 @@ line-first f g fs l m = chain-first (λ (f g : File). before (f .largest) (g .sm
     (λ f g h i a b. before-order .trans (f .largest) (g .smallest) (h .smallest) a (le-lt before before-order (g .smallest) (g .largest) (h .smallest) i b))
     f g fs (λ h i. l .good h (there i)) (l .ordered) m
 
--- the files to the right
+-- the files to the right are in line
 pub line-right : (xs ys : List File) → Line (xs ++ ys) → Line ys
 line-right [] ys l = l
 line-right (x ∷ xs) ys l = line-right xs ys (line-rest x (xs ++ ys) l)

@@ -4,15 +4,15 @@ use Prim.Native.Nat.{ℕ, zero, suc, _+_, _-_, _^_, _≤_, _<_}
 use mathlib.Core.Path.{_≡_, refl, sym, ap, subst, _∙_}
 use mathlib.Core.Bool.{Bool, true, false, not, cond, _&&_}
 use mathlib.Core.Logic.{_⊎_, inl, inr}
-use mathlib.Core.List.{List, [], _∷_, _++_, map, map-append, append-assoc, append-nil, List·Memᴰ as In, List·Memᴰ·tail as there}
+use mathlib.Core.List.{List, [], _∷_, _++_, map, map-append, List·Memᴰ as In, List·Memᴰ·tail as there}
 use native.Mathlib.Omega.{arith}
 use lib.Dec.{ltb}
-use borrow.Author.Tests.{lt-ltb, le-ltb, ltb-true, ltb-false, not-true}
+use borrow.Author.Tests.{le-ltb, not-true}
 use lib.ListN.{length, getD}
 use lib.Seq.{slice}
-use Rattle.lemmas.specs.Lists.{chain, keep, sum, find}
-use Rattle.lemmas.specs.ListLaws.{chain-rest, chain-first, getD-in, keep-append, sub-all, and-left, and-right}
-use Rattle.lemmas.specs.Loops.{compare, keep-here, keep-later}
+use Rattle.lemmas.specs.Lists.{chain, keep, push, sum, find, takeOn}
+use Rattle.lemmas.specs.ListLaws.{chain-rest, chain-first, getD-in, keep-append, sub-all}
+use Rattle.lemmas.specs.Loops.{compare, keep-later}
 use Rattle.lemmas.specs.Slices.{run-join, length-view, at-view}
 use Rattle.lemmas.specs.Order.{clash, asym, lt-le, le-lt}
 use Rattle.model.specs.File.{File, full, level, total, bySmallest, inOrder, apart, levelCount, maxBytes, maxFiles}
@@ -23,18 +23,16 @@ use Rattle.model.specs.Pick.{upTo}
 use Rattle.model.specs.PickedLaws.{GoodLevel}
 use Rattle.model.specs.Range.{Range, overlaps, inside, widen, lowKey, highKey}
 use Rattle.model.specs.RangeLaws.{overlaps-says, inside-says, widen-least}
-use Rattle.keys.specs.Key.{keyOf}
 use Rattle.keys.specs.KeyLaws.{keyOf-record}
 use Rattle.records.specs.Record.{fileOf, past}
-use Rattle.records.specs.RecordLaws.{run-turn, run-ended, total-turn}
+use Rattle.records.specs.RecordLaws.{run-turn, run-ended}
 use Rattle.records.specs.Run.{run}
 use Rattle.records.specs.declared.FileRecord.{FileRecord}
 use Rattle.store.specs.declared.Store.{Store}
 use Rattle.store.specs.Store.{stateOf, wellStore}
-use Rattle.pick_found.specs.declared.FoundRun.{FoundRun}
 use Rattle.pick_found.specs.CallsLaws.{level-run, level-ends, files-room}
-use Rattle.pick_found.specs.FoundRun.{startAt, endAt, fileAt, lowWith, highWith, noneAt, Summed, endsBefore, beginsAfter, Contiguous, Gathered, reached, Passed}
-use Rattle.pick_found.specs.FoundLaws.{level-part, total-joined, summed-more}
+use Rattle.pick_found.specs.FoundRun.{startAt, endAt, fileAt, noneAt, Summed, endsBefore, beginsAfter, Contiguous, reached, Passed}
+use Rattle.pick_found.specs.FoundLaws.{level-part, total-joined}
 
 -- ---- places and lists
 -- if neighbours stand in r, which is transitive through good items, so do any two items
@@ -56,7 +54,7 @@ module _ (files : List FileRecord) (from to : ℕ) where
         at-view fileOf from to files (i - from) past (fileOf past) (omega arith) q ∙ ap (λ (j : ℕ). fileOf (getD files j past)) e
 
     -- there are as many files as places
-    run-length : length (run from to files) ≡ to - from
+    pub run-length : length (run from to files) ≡ to - from
     unfolding run
     run-length = length-view fileOf from to files q
 
@@ -73,7 +71,7 @@ module _ (files : List FileRecord) (from to : ℕ) where
         subst (λ (f : File). r f (fileAt files j) ≡ true) (run-at i h (omega arith)) (subst (λ (f : File). r (getD (run from to files) (i - from) (fileOf past)) f ≡ true) (run-at j (omega arith) l) two)
 
     -- a run in two parts
-    run-parts : (m : ℕ) → from ≤ m → m ≤ to → run from to files ≡ run from m files ++ run m to files
+    pub run-parts : (m : ℕ) → from ≤ m → m ≤ to → run from to files ≡ run from m files ++ run m to files
     unfolding run
     run-parts m h k = ap (λ (rs : List FileRecord). map fileOf rs) (run-join from m to files h k q) ∙ map-append fileOf (slice from m files) (slice m to files)
 
@@ -94,7 +92,7 @@ kept-same p o files (suc n) i e s q h =
     rw (run-turn i e files (omega arith) q, h i (omega arith) (omega arith), kept-same p o files n (i + 1) e (omega arith) q (λ j k l. h j (omega arith) l))
 
 -- a run with one file more
-run-more : (files : List FileRecord) (from i : ℕ) → from ≤ i → i < length files → run from (i + 1) files ≡ run from i files ++ (fileAt files i ∷ [])
+pub run-more : (files : List FileRecord) (from i : ℕ) → from ≤ i → i < length files → run from (i + 1) files ≡ run from i files ++ (fileAt files i ∷ [])
 unfolding fileAt
 run-more files from i h k =
     run-parts files from (i + 1) (omega arith) i h (omega arith)
@@ -323,7 +321,11 @@ module _ (files : List FileRecord) (from to : ℕ) (r : Range) (s : Contiguous f
           go n false x = s .none-before lo j least e b (neither-overlaps r (fileAt files lo) (stays (omega arith)) x)
       same least stays j a b (inr (inr e)) = absurd (omega arith)
 
--- ---- taking files up to the first that begins after the range
+-- ---- taking files one after another up to the first that begins after the range
+-- one file more is taken: the bytes so far are not above the limit, and it does not begin after the range
+abbrev pub takesBy : ℕ → List ℕ → List File → File → Bool
+takesBy most stop xs f = not (ltb most (total xs)) && reached stop f
+
 -- the files taken of the rest, with t bytes so far: none if t is above the limit
 restTo : ℕ → ℕ → List File → List File
 restTo m t fs = cond (ltb m t) [] (upTo m t fs)
@@ -334,14 +336,14 @@ unfolding upTo restTo
 up-next m t f fs = refl
 
 -- above the limit none is taken
-rest-above : (m t : ℕ) (fs : List File) → m < t → restTo m t fs ≡ []
+rest-above : (m t : ℕ) (fs : List File) → ltb m t ≡ true → restTo m t fs ≡ []
 unfolding restTo
-rest-above m t fs h = rw (lt-ltb m t h)
+rest-above m t fs h = rw h
 
 -- up to the limit, what `upTo` takes
-rest-below : (m t : ℕ) (fs : List File) → t ≤ m → restTo m t fs ≡ upTo m t fs
+rest-below : (m t : ℕ) (fs : List File) → ltb m t ≡ false → restTo m t fs ≡ upTo m t fs
 unfolding restTo
-rest-below m t fs h = rw (le-ltb m t h)
+rest-below m t fs h = rw h
 
 -- of no files none is taken
 rest-none : (m t : ℕ) → restTo m t [] ≡ []
@@ -352,112 +354,61 @@ rest-none m t = go (ltb m t)
     go true = refl
     go false = refl
 
--- a search from lo that has reached place i: the files taken are the run from lo to i, and with the rest they are all that will be taken
-pub record Taking (files : List FileRecord) (to most : ℕ) (stop : List ℕ) (lo : ℕ) (a : FoundRun) (i : ℕ) : Type 0 where
-  pub starts : a .from ≡ lo
-  pub next : i ≡ a .from + a .count
-  pub stays : i ≤ to
-  sums : Summed (run (a .from) i files) (a .ends) (a .bytes)
-  pub small : a .bytes + total (run i to files) ≤ maxBytes
-  rest : run (a .from) i files ++ restTo most (a .bytes) (keep (reached stop) (run i to files)) ≡ upTo most 0 (keep (reached stop) (run lo to files))
+-- the bytes with one file more
+total-more : (xs : List File) (f : File) → total (xs ++ (f ∷ [])) ≡ total xs + f .size
+unfolding total sum
+total-more xs f = let one : total (f ∷ []) ≡ f .size = omega arith in total-joined xs (f ∷ []) ∙ ap (λ (n : ℕ). total xs + n) one
 
-module _ (files : List FileRecord) (from to most : ℕ) (r : Range) (s : Contiguous files from to r) (q : length files ≡ maxFiles) (lo : ℕ) (p : Passed files from to r lo) where
-  -- at first nothing is taken
-  pub taking-start : Taking files to most (r .stop) lo (noneAt lo) lo
-  unfolding noneAt lowKey highKey find total sum
-  taking-start =
+-- one file more: if it begins after the range, so do all files after it
+taken-step : (most : ℕ) (r : Range) (f : File) (fs : List File) → (beginsAfter r f ≡ true → keep (reached (r .stop)) fs ≡ [])
+    → ((xs : List File) → takeOn (takesBy most (r .stop)) xs fs ≡ restTo most (total xs) (keep (reached (r .stop)) fs))
+    → (xs : List File) → takeOn (takesBy most (r .stop)) xs (f ∷ fs) ≡ restTo most (total xs) (keep (reached (r .stop)) (f ∷ fs))
+unfolding takeOn keep push beginsAfter
+taken-step most r f fs h ih xs = go (ltb most (total xs)) (beginsAfter r f) refl refl
+  where
+    go : (u v : Bool) → ltb most (total xs) ≡ u → beginsAfter r f ≡ v
+        → cond (not u && not v) (f ∷ takeOn (takesBy most (r .stop)) (xs ++ (f ∷ [])) fs) [] ≡ restTo most (total xs) (push (not v) f (keep (reached (r .stop)) fs))
+    go true v e b = sym (rest-above most (total xs) (push (not v) f (keep (reached (r .stop)) fs)) e)
+    go false true e b = sym (ap (restTo most (total xs)) (h b) ∙ rest-none most (total xs))
+    go false false e b =
+        ap (λ (gs : List File). f ∷ gs) (ih (xs ++ (f ∷ [])) ∙ ap (λ (n : ℕ). restTo most n (keep (reached (r .stop)) fs)) (total-more xs f))
+        ∙ sym (up-next most (total xs) f (keep (reached (r .stop)) fs)) ∙ sym (rest-below most (total xs) (f ∷ keep (reached (r .stop)) fs) e)
+
+-- where all files after one that begins after the range do so too, those taken after xs are the others, up to the limit
+taken-rest : (most : ℕ) (r : Range) (files : List FileRecord) (n i e : ℕ) → i + n ≡ e → e ≤ length files
+    → ((j k : ℕ) → i ≤ j → j < k → k < e → beginsAfter r (fileAt files j) ≡ true → beginsAfter r (fileAt files k) ≡ true)
+    → (xs : List File) → takeOn (takesBy most (r .stop)) xs (run i e files) ≡ restTo most (total xs) (keep (reached (r .stop)) (run i e files))
+unfolding takeOn keep beginsAfter fileAt
+taken-rest most r files zero i e s q h xs = rw (run-ended i e files (omega arith)) (sym (rest-none most (total xs)))
+taken-rest most r files (suc n) i e s q h xs =
+    rw (run-turn i e files (omega arith) q)
+    (taken-step most r (fileAt files i) (run (i + 1) e files)
+    (λ b. none-kept (reached (r .stop)) files n (i + 1) e (omega arith) q (λ j k l. rw (h i j (omega arith) (omega arith) l b)))
+    (taken-rest most r files n (i + 1) e (omega arith) q (λ j k a. h j k (omega arith))) xs)
+
+-- the ends and bytes of no files
+pub none-summed : (i : ℕ) → Summed [] (noneAt i .ends) (noneAt i .bytes)
+unfolding noneAt lowKey highKey find total sum
+none-summed i = record { low = keyOf-record [] (omega arith); high = keyOf-record [] (omega arith); bytes-are = refl }
+
+-- from the place on that a search by halves has reached
+module _ (files : List FileRecord) (from to : ℕ) (r : Range) (s : Contiguous files from to r) (q : length files ≡ maxFiles) (lo : ℕ) (p : Passed files from to r lo) where
+  -- the files taken one after another are those that overlap, up to the limit
+  pub taken-overlap : (most : ℕ) → takeOn (takesBy most (r .stop)) [] (run lo to files) ≡ upTo most 0 (keep (overlaps r) (run from to files))
+  unfolding total sum
+  taken-overlap most =
+      let least = p .least in
+      let last = p .most in
+      let room = s .room in
+      taken-rest most r files (to - lo) lo to (omega arith) (omega arith) (λ j k a. s .all-after j k (omega arith)) []
+      ∙ rest-below most 0 (keep (reached (r .stop)) (run lo to files)) (le-ltb most 0 (omega arith)) ∙ ap (upTo most 0) (sym (p .kept))
+
+  -- the bytes of the files after it are bounded
+  pub rest-small : total (run lo to files) ≤ maxBytes
+  rest-small =
       let least = p .least in
       let last = p .most in
       let room = s .room in
       let small = s .small in
-      let none = run-ended lo lo files (omega arith) in
       let sizes : total (run from to files) ≡ total (run from lo files) + total (run lo to files) = ap total (run-parts files from to (omega arith) lo least (omega arith)) ∙ total-joined (run from lo files) (run lo to files) in
-      record {
-        starts = refl;
-        next = omega arith;
-        stays = last;
-        sums = rw none record { low = keyOf-record [] (omega arith); high = keyOf-record [] (omega arith); bytes-are = refl };
-        small = omega arith;
-        rest = rw none (rest-below most 0 (keep (reached (r .stop)) (run lo to files)) (omega arith));
-      }
-
-  module _ (a : FoundRun) (i : ℕ) (g : Taking files to most (r .stop) lo a i) where
-    -- the file at i
-    abbrev now : File
-    now = fileAt files i
-
-    -- the result of the search: all files that overlap, up to the limit
-    abbrev Finds : Type 0
-    Finds = Gathered files from to a × (run (a .from) (a .from + a .count) files ≡ upTo most 0 (keep (overlaps r) (run from to files)))
-
-    -- if nothing more is taken, the search has this result
-    finds : restTo most (a .bytes) (keep (reached (r .stop)) (run i to files)) ≡ [] → Finds
-    finds e =
-        let least = p .least in
-        let starts = g .starts in
-        let next = g .next in
-        let stays = g .stays in (
-          record { starts = omega arith; fits = omega arith; sums = subst (λ (j : ℕ). Summed (run (a .from) j files) (a .ends) (a .bytes)) next (g .sums) },
-          ap (λ (j : ℕ). run (a .from) j files) (sym next) ∙ sym (ap (λ (fs : List File). run (a .from) i files ++ fs) e ∙ append-nil (run (a .from) i files)) ∙ g .rest ∙ ap (upTo most 0) (sym (p .kept)),
-        )
-
-    -- so it has at the run's end
-    pub taking-ended : to ≤ i → Finds
-    unfolding keep
-    taking-ended h = finds (ap (λ (fs : List File). restTo most (a .bytes) (keep (reached (r .stop)) fs)) (run-ended i to files h) ∙ rest-none most (a .bytes))
-
-    module _ (h : i < to) where
-      -- after a file that begins after the range, all do
-      after-none : beginsAfter r now ≡ true → keep (reached (r .stop)) (run i to files) ≡ []
-      unfolding beginsAfter
-      after-none t =
-          let room = s .room in
-          none-kept (reached (r .stop)) files (to - i) i to (omega arith) (omega arith) (λ j k l. rw (after j k l (compare i j)))
-        where
-          after : (j : ℕ) → i ≤ j → j < to → (i ≡ j) ⊎ ((i < j) ⊎ (j < i)) → beginsAfter r (fileAt files j) ≡ true
-          after j k l (inl e) = subst (λ (m : ℕ). beginsAfter r (fileAt files m) ≡ true) e t
-          after j k l (inr (inl e)) =
-              let least = p .least in
-              let starts = g .starts in
-              let next = g .next in
-              s .all-after i j (omega arith) e l t
-          after j k l (inr (inr e)) = absurd (omega arith)
-
-      -- the search ends: the bytes are above the limit, or the file at i begins after the range
-      pub taking-stops : (not (ltb most (a .bytes)) && reached (r .stop) now) ≡ false → Finds
-      unfolding beginsAfter
-      taking-stops b = finds (go (ltb most (a .bytes)) (beginsAfter r now) refl refl b)
-        where
-          go : (u v : Bool) → ltb most (a .bytes) ≡ u → beginsAfter r now ≡ v → (not u && not v) ≡ false → restTo most (a .bytes) (keep (reached (r .stop)) (run i to files)) ≡ []
-          go true v e f x = rest-above most (a .bytes) (keep (reached (r .stop)) (run i to files)) (ltb-true most (a .bytes) e)
-          go false true e f x = ap (restTo most (a .bytes)) (after-none f) ∙ rest-none most (a .bytes)
-          go false false e f x = clash refl x
-
-      -- it goes on: the file at i is taken
-      pub taking-taken : (not (ltb most (a .bytes)) && reached (r .stop) now) ≡ true → (b : FoundRun) → b .from ≡ a .from → b .count ≡ a .count + 1
-          → keyOf (b .ends .low) ≡ lowWith (a .count) (keyOf (a .ends .low)) 1 (now .smallest) → keyOf (b .ends .high) ≡ highWith (a .count) (keyOf (a .ends .high)) 1 (now .largest)
-          → b .bytes ≡ a .bytes + now .size → Taking files to most (r .stop) lo b (i + 1)
-      unfolding fileAt fileOf
-      taking-taken t b same more low high bytes =
-          let starts = g .starts in
-          let next = g .next in
-          let small = g .small in
-          let room = s .room in
-          let fs = run (a .from) i files in
-          let rest = keep (reached (r .stop)) (run (i + 1) to files) in
-          let few = ltb-false most (a .bytes) (not-true (ltb most (a .bytes)) (and-left (not (ltb most (a .bytes))) (reached (r .stop) now) t)) in
-          let in-range = and-right (not (ltb most (a .bytes))) (reached (r .stop) now) t in
-          let turn = run-turn i to files h (omega arith) in
-          let all : run (b .from) (i + 1) files ≡ fs ++ (now ∷ []) = ap (λ (k : ℕ). run k (i + 1) files) same ∙ run-more files (a .from) i (omega arith) (omega arith) in
-          let size : length fs ≡ a .count = omega (arith, run-length files (a .from) i (omega arith)) in
-          record {
-            starts = same ∙ starts;
-            next = omega arith;
-            stays = omega arith;
-            sums = rw (all, bytes) (summed-more fs (a .count) now (a .ends) (b .ends) (a .bytes) size (g .sums) low high);
-            small = omega (arith, total-turn i to files h (omega arith));
-            rest = rw (all, bytes)
-                (append-assoc fs (now ∷ []) (restTo most (a .bytes + now .size) rest)
-                ∙ ap (λ (gs : List File). fs ++ gs) (sym (up-next most (a .bytes) now rest) ∙ sym (rest-below most (a .bytes) (now ∷ rest) few) ∙ ap (restTo most (a .bytes)) (sym (keep-here (reached (r .stop)) (run i to files) (run (i + 1) to files) now turn in-range)))
-                ∙ g .rest);
-          }
+      omega arith

@@ -38,7 +38,7 @@ OwnPlan p = fsep (P.the-row .own p (machP p ∷ [])) ftrue
 
 -- where the plan is not refused: what it asks of the store, and what its searches lead to
 abbrev pub Asks : Store → PickPlan → Type 0
-Asks h p = Ready h (p .asked) (p .search) 5 × (p .asked .level < lastLevel)
+Asks h p = Ready h (p .asked) (p .search) × (p .asked .level < lastLevel)
 
 abbrev pub answer : Store → PickPlan → Answer model.Pick
 answer h p = picksFrom h (p .cause) (p .asked) (p .search)

@@ -17,7 +17,6 @@ use Rattle.records.specs.declared.FileRecord.{FileRecord}
 use Rattle.store.specs.declared.Pointer.{Pointer}
 use Rattle.store.specs.declared.Store.{Store}
 use Rattle.store.specs.Store.{stateOf, wellStore, onStore, StoreShape}
-use Rattle.pick_found.specs.declared.FoundRun.{FoundRun}
 use Rattle.pick_score.specs.declared.Scored.{Scored}
 use Rattle.pick_score.specs.Scores.{scoredOf}
 use Rattle.pick_range.specs.Ranges.{spanRecord}
@@ -30,6 +29,7 @@ use Rattle.pick_search.specs.Choice.{begun, firsts}
 use Rattle.pick_search.specs.Search.{Ready}
 use Rattle.pick_plan.specs.declared.Ending.{Ending}
 use Rattle.pick_plan.specs.declared.PickPlan.{PickPlan}
+use Rattle.pick_plan.specs.declared.Started.{Started}
 use Rattle.pick_plan.specs.declared.Taken.{Taken}
 use Rattle.pick_plan.specs.Starts.{Starts}
 
@@ -70,8 +70,8 @@ pub record Plans (s : Store) (a : Answer model.Pick) (p : PickPlan) : Type 0 whe
   pub answers : answerOf s p ≡ a
   pub feasible : Feasible s p
 
--- the plan of a size pick on any well-formed store with this level to compact and these files to start with
-abbrev pub SizePlanned : Scored → FoundRun → ℕ → PickPlan → Type 0
+-- the plan of a size pick on any well-formed store with this level to compact and this start
+abbrev pub SizePlanned : Scored → Started → ℕ → PickPlan → Type 0
 SizePlanned c z m p = (s : Store) → StoreShape s → wellStore s ≡ true → c ≡ scoredOf (stateOf s) → Starts s (c .level) (c .due) z → Plans s (onStore s (λ t. model.sizePick full t m)) p
 
 -- the plan of a manual pick on any store, given whether that is well-formed

@@ -4,7 +4,7 @@ use mathlib.Core.Path.{_≡_}
 use mathlib.Core.Bool.{Bool, cond, _&&_}
 use mathlib.Core.List.{List, [], _∷_, Option·toList}
 use mathlib.Core.Option.{Option, none, some, orElse}
-use lib.Dec.{ltb}
+use lib.Dec.{eqb, ltb}
 use lib.ListN.{length, getD, take}
 use Rattle.lemmas.specs.Lists.{find, sum, upFrom}
 use Rattle.model.specs.Completion.{completedAt}
@@ -18,6 +18,9 @@ use Rattle.store.specs.StoreLaws.{past as pastPointer}
 use Rattle.pick_found.specs.declared.FoundRun.{FoundRun}
 use Rattle.pick_found.specs.FoundRun.{fileAt, startAt, endAt, noneAt, inputsOf, Known}
 use Rattle.bisect.specs.declared.Window.{Window}
+use Rattle.pick_plan.specs.declared.Start.{Start}
+use Rattle.pick_plan.specs.declared.Start.the-variants.{At, Nothing}
+use Rattle.pick_plan.specs.declared.Started.{Started}
 
 -- the byte limit of a manual pick's first inputs: none at level 0, M deeper
 unfoldable pub limitOf : ℕ → ℕ → ℕ
@@ -45,10 +48,15 @@ startPlace (some k) from to files =
 unfoldable pub startIn : Store → ℕ → Option ℕ
 startIn s n = startPlace (pointerOf (getD (s .pointers) n pastPointer)) (startAt s n) (endAt s n) (s .files)
 
--- the files that a size pick of a level starts with, known by their places: the start file, completed above level 0, or none if no work is due
-pub record Starts (s : Store) (n : ℕ) (due : Bool) (r : FoundRun) : Type 0 where
-  pub known : Known s n r
-  pub are : inputsOf s r ≡ completedAt n (level (stateOf s) n) (Option·toList (cond due (startFile (pointer (stateOf s) n) (level (stateOf s) n)) none))
+-- the place of the first of some files, or nothing if there are none
+unfoldable pub beginOf : FoundRun → Start
+beginOf a = cond (eqb (a .count) 0) Nothing (At (a .from))
+
+-- what a size pick of a level starts with, known by its places: the start file, completed above level 0, or no files if no work is due
+pub record Starts (s : Store) (n : ℕ) (due : Bool) (r : Started) : Type 0 where
+  pub start : r .start ≡ beginOf (r .first)
+  pub known : Known s n (r .first)
+  pub are : inputsOf s (r .first) ≡ completedAt n (level (stateOf s) n) (Option·toList (cond due (startFile (pointer (stateOf s) n) (level (stateOf s) n)) none))
 
 -- ---- step by step
 -- the places of a level, or none if no work is due
@@ -72,6 +80,14 @@ firstAfter k p files = placeOr (p .hi) (find (λ i. before k (fileAt files i .la
 unfoldable pub startAmong : Window → Bool → ℕ → ℕ
 startAmong p pointed i = cond (ltb (p .lo) (p .hi)) (cond (pointed && ltb i (p .hi)) i (p .lo)) 0
 
--- the file at a place as files found, or none if there are no places
-unfoldable pub startedBy : Window → ℕ → FileRecord → FoundRun
-startedBy p i f = cond (ltb (p .lo) (p .hi)) (record { from = i; count = 1; ends = record { low = f .smallest; high = f .largest }; bytes = f .size }) (noneAt (p .hi))
+-- one file found, by its place and its record
+unfoldable pub oneFound : ℕ → FileRecord → FoundRun
+oneFound i f = record { from = i; count = 1; ends = record { low = f .smallest; high = f .largest }; bytes = f .size }
+
+-- a start with the file at a place, or with nothing if there are no places
+unfoldable pub startedBy : Window → ℕ → FileRecord → Started
+startedBy p i f = cond (ltb (p .lo) (p .hi)) (record { start = At i; first = oneFound i f }) (record { start = Nothing; first = noneAt (p .hi) })
+
+-- the same start with other files
+unfoldable pub startingWith : Started → FoundRun → Started
+startingWith z a = record { start = z .start; first = a }

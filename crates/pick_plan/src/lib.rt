@@ -7,7 +7,7 @@ ghost use Rattle.model.specs.Key.{before};
 ghost use Rattle.model.specs.Pick as model;
 ghost use Rattle.model.specs.File.{full, levelCount, maxFiles};
 ghost use Rattle.keys.specs.Key.{keyOf};
-ghost use Rattle.pick_plan.specs.Starts.{limitOf, searchOf, startedBy, placesOf, nearerBy, startAmong, firstAfter, Starts};
+ghost use Rattle.pick_plan.specs.Starts.{oneFound, limitOf, searchOf, startedBy, startingWith, placesOf, nearerBy, startAmong, firstAfter, Starts};
 ghost use Rattle.pick_plan.specs.Plans.{noChoice, noPlan, isAccepted, noneTaken, SizePlanned, RangePlanned, endOf, pointersBy, Plans};
 ghost use Rattle.store.specs.Store.{wellStore, lookOf, onStore, StoreShape};
 use answers::Outcome;
@@ -25,6 +25,19 @@ use records::FileRecord;
 use records::Level;
 use store::Pointer;
 use store::Store;
+
+// The place of the file to start with, or nothing.
+pub enum Start {
+    At(usize),
+    Nothing,
+}
+
+// What a size pick starts with.
+pub struct Started {
+    pub start: Start,
+    // The file there, completed above level 0, or no files.
+    pub first: FoundRun,
+}
 
 // The plan of a pick, or the number of its refusal.
 pub struct PickPlan {
@@ -140,13 +153,10 @@ fn start_place(p: Window, pointed: bool, i: usize) -> usize
     p.lo
 }
 
-// The file f at place i as files found, or none if there are no places.
-fn started_by(p: Window, i: usize, f: FileRecord) -> FoundRun
-    ensures { λ r. ⌜ r ≡ startedBy p i f ⌝ }
+// One file found, by its place and its record.
+fn one_file(i: usize, f: FileRecord) -> FoundRun
+    ensures { λ r. ⌜ r ≡ oneFound i f ⌝ }
 {
-    if p.hi <= p.lo {
-        return pick_found::nothing_at(p.hi);
-    }
     let low = f.smallest;
     let high = f.largest;
     let ends = Ends {
@@ -161,9 +171,40 @@ fn started_by(p: Window, i: usize, f: FileRecord) -> FoundRun
     }
 }
 
-// The files that a size pick starts with: the level's first file whose largest key is after the pointer, or its first file if there is no pointer or none is after
-// it, completed above level 0. Nothing if no work is due. Requires: the store has its shape and is well-formed, and the level is one of the seven.
-fn size_start(s: &Store, level: usize, due: bool) -> FoundRun
+// A start with the file f at place i, or with nothing if there are no places.
+fn started_by(p: Window, i: usize, f: FileRecord) -> Started
+    ensures { λ r. ⌜ r ≡ startedBy p i f ⌝ }
+{
+    if p.hi <= p.lo {
+        let start = Start::Nothing;
+        let none = pick_found::nothing_at(p.hi);
+        return Started {
+            start: start,
+            first: none,
+        };
+    }
+    let start = Start::At(i);
+    let one = one_file(i, f);
+    Started {
+        start: start,
+        first: one,
+    }
+}
+
+// The same start with other files.
+fn starting_with(z: Started, first: FoundRun) -> Started
+    ensures { λ r. ⌜ r ≡ startingWith z first ⌝ }
+{
+    let start = z.start;
+    Started {
+        start: start,
+        first: first,
+    }
+}
+
+// What a size pick starts with: the level's first file whose largest key is after the pointer, or its first file if there is no pointer or none is after it. Above
+// level 0 it is completed. Nothing if no work is due. Requires: the store has its shape and is well-formed, and the level is one of the seven.
+fn size_start(s: &Store, level: usize, due: bool) -> Started
     requires { ⌜ StoreShape (now s) × (wellStore (now s) ≡ true) × (level < levelCount) ⌝ }
     ensures { λ r. ⌜ Starts (now (s .entry)) level due r ⌝ }
 {
@@ -174,7 +215,8 @@ fn size_start(s: &Store, level: usize, due: bool) -> FoundRun
     let f = store::file_at(s, j);
     let one = started_by(p, j, f);
     let q = pick_search::edge_question(level, p.hi);
-    pick_search::taken(s, q, one, Sweep::BY_EDGE)
+    let first = pick_search::taken(s, q, one.first, Sweep::BY_EDGE);
+    starting_with(one, first)
 }
 
 // The first search of a size pick. Above level 0 it has its first inputs and goes straight to second inputs. At level 0 it searches by the range of its file, and
@@ -188,20 +230,23 @@ fn search_of(level: usize) -> usize
     Choice::SECOND
 }
 
-// The plan of a size pick, by the level to compact and the files to start with.
-fn size_planned(scored: Scored, started: FoundRun, maximum: u64) -> PickPlan
+// The plan of a size pick, by the level to compact and what it starts with.
+fn size_planned(scored: Scored, started: Started, maximum: u64) -> PickPlan
     ensures { λ r. ⌜ SizePlanned scored started maximum r ⌝ }
 {
     if is_bad_maximum(maximum) {
         return refused_plan(Refusal::COUNTER);
     }
-    if started.count == 0 {
+    let found = started.start;
+    let Start::At(i) = found else {
         return refused_plan(Refusal::NOTHING);
-    }
-    let span = pick_found::range_of(started);
+    };
+    let mut first = started.first;
+    first.from = i;
+    let span = pick_found::range_of(first);
     let level = scored.level;
     let mut asked = pick_search::asking(level, maximum, span, FoundRun::ALL);
-    asked.first = started;
+    asked.first = first;
     let outcome = Outcome::Done;
     let cause = Cause::Size(scored.score);
     PickPlan {

@@ -1,17 +1,20 @@
 -- Laws of one search of a pick: its places are a level's, or none past the last level, and its result takes the pick to the next search. Assumes nothing.
-use Prim.Native.Nat.{ℕ, _+_, _≤_, _<_}
+use Prim.Native.Nat.{ℕ, zero, suc, _+_, _≤_, _<_}
 use mathlib.Core.Path.{_≡_, refl, sym, ap, subst, _∙_}
 use mathlib.Core.Bool.{Bool, true, false, cond}
 use mathlib.Core.Logic.{_⊎_, inl, inr, ⊎-elim}
 use mathlib.Core.List.{List, [], map}
 use native.Mathlib.Omega.{arith}
-use lib.Dec.{ltb}
+use lib.Dec.{eqb, ltb}
 use borrow.Author.Tests.{lt-ltb, le-ltb, ltb-true, ltb-false, eqb-true, eqb-false}
 use lib.ListN.{length, getD, length-map, List·getD-eq-default}
 use Rattle.lemmas.specs.Lists.{keep, sum}
+use Rattle.lemmas.specs.ListLaws.{neither-left}
 use Rattle.lemmas.specs.Slices.{parts, length-parts}
 use Rattle.model.specs.Completion.{completed}
-use Rattle.model.specs.File.{File, level, levelCount, maxFiles}
+use Rattle.model.specs.File.{File, full, level, total, levelCount, maxFiles}
+use Rattle.model.specs.Formed.{formed-says}
+use Rattle.model.specs.LineLaws.{Line, level-line}
 use Rattle.model.specs.Pick.{upTo}
 use Rattle.model.specs.Range.{Range, overlaps, overlapping, widen}
 use Rattle.records.specs.Record.{fileOf}
@@ -23,18 +26,30 @@ use Rattle.counters.specs.declared.Counters.{Counters}
 use Rattle.store.specs.declared.Pointer.{Pointer}
 use Rattle.store.specs.declared.Store.{Store}
 use Rattle.store.specs.Store.{stateOf, wellStore}
+use Rattle.store.specs.StoreLaws as store
 use Rattle.pick_range.specs.Ranges.{spanOf}
 use Rattle.pick_found.specs.declared.FoundRun.{FoundRun}
 use Rattle.pick_found.specs.FoundRun.{startAt, endAt, inputsOf, Contiguous, Gathered, Known}
-use Rattle.pick_found.specs.FoundLaws.{level-known, overlapping-first, overlapping-deeper}
-use Rattle.pick_found.specs.ContiguousLaws.{contiguous-deeper, contiguous-widened}
-use Rattle.pick_found.specs.CallsLaws.{level-run, level-ends}
+use Rattle.pick_found.specs.FoundLaws.{level-known, total-joined, overlapping-first, overlapping-deeper}
+use Rattle.pick_found.specs.ContiguousLaws.{run-parts, contiguous-deeper, contiguous-widened}
+use Rattle.pick_found.specs.CallsLaws.{level-run, level-ends, files-room}
 use Rattle.pick_search.specs.declared.Choice.{Choice}
 use Rattle.pick_search.specs.declared.Question.{Question}
 use Rattle.pick_search.specs.Choice.{askedLevel, askedSpan, askedMost, askedEdges, overBy, foundBy, questionOf, filledWith, firsts, SearchInvariant, Widest, Finds}
 use Rattle.pick_search.specs.Search.{Takable, Takes, Findable, Overlaps}
 use Rattle.pick_search.specs.CompletedLaws.{not-completed, is-completed}
 use Rattle.pick_search.specs.InvariantLaws.{invariant-next, filled-level, filled-maximum}
+
+-- ---- the levels that are completed
+-- a search completes only above level 0
+edges-deeper : (n k : ℕ) → askedEdges n k ≡ true → n ≡ 0 → ⊥
+unfolding askedEdges
+edges-deeper n k e = eqb-false n 0 (neither-left (eqb n 0) (eqb k 4) e)
+
+-- such a level of a well-formed store stands in line
+deeper-line : (s : Store) (n : ℕ) → wellStore s ≡ true → (n ≡ 0 → ⊥) → Line (level (stateOf s) n)
+deeper-line s zero h z = absurd (z refl)
+deeper-line s (suc n) h z = level-line full (stateOf s) n (formed-says full (stateOf s) .0 (store.well-says s .0 h .formed))
 
 -- ---- the places of a search
 module _ (s : Store) (c : Choice) (k : ℕ) where
@@ -95,6 +110,30 @@ module _ (s : Store) (c : Choice) (k : ℕ) where
     is-level : n < levelCount → run (a .from) (a .to) (s .files) ≡ level (stateOf s) n
     is-level l = rw (from-level l, to-level l) (sym (level-run s n (omega arith)))
 
+    -- also past the last level, where there are none
+    is-all : run (a .from) (a .to) (s .files) ≡ level (stateOf s) n
+    is-all = go (ltb n levelCount) refl
+      where
+        go : (t : Bool) → ltb n levelCount ≡ t → run (a .from) (a .to) (s .files) ≡ level (stateOf s) n
+        go true t = is-level (ltb-true n levelCount t)
+        go false t =
+            let l = ltb-false n levelCount t in
+            let ends = to-past l in
+            run-ended (a .from) (a .to) (s .files) (omega arith) ∙ sym (level-past l)
+
+    -- files found in its places are files of the level, or none past the last
+    asked-known : (f : FoundRun) → Gathered (s .files) (a .from) (a .to) f → Known s n f
+    unfolding inputsOf
+    asked-known f g = go (ltb n levelCount) refl
+      where
+        go : (t : Bool) → ltb n levelCount ≡ t → Known s n f
+        go true t = let l = ltb-true n levelCount t in level-known s n f (rw (from-level l, to-level l) at g)
+        go false t =
+            let l = ltb-false n levelCount t in
+            let ends = to-past l in
+            let fits = g .fits in
+            record { held = record { few = omega arith; below = omega arith }; sums = g .sums }
+
     -- at level 0 its range is the least widening, deeper the range itself
     wide-level : n < levelCount → (w : Range) → Widest a (s .files) w → ((n ≡ 0) × (w ≡ widen (level (stateOf s) n) r)) ⊎ ((n ≡ 0 → ⊥) × (w ≡ r))
     unfolding questionOf
@@ -120,45 +159,69 @@ module _ (s : Store) (c : Choice) (k : ℕ) where
 
       -- the files found are the overlapping files of the level, up to the limit
       asked-found : (f : FoundRun) → Finds a (s .files) w f → Known s n f × (inputsOf s f ≡ upTo (askedMost c k) 0 (overlapping n (level (stateOf s) n) r))
-      unfolding inputsOf keep upTo
-      asked-found f g = go (ltb n levelCount) refl
+      unfolding inputsOf keep
+      asked-found f g =
+          (asked-known f (g .0), g .1 ∙ ap (λ (gs : List File). upTo (a .most) 0 (keep (overlaps w) gs)) is-all ∙ rw most (ap (upTo (askedMost c k) 0) (over (ltb n levelCount) refl)))
         where
-          go : (t : Bool) → ltb n levelCount ≡ t → Known s n f × (inputsOf s f ≡ upTo (askedMost c k) 0 (overlapping n (level (stateOf s) n) r))
-          go true t =
+          over : (t : Bool) → ltb n levelCount ≡ t → keep (overlaps w) (level (stateOf s) n) ≡ overlapping n (level (stateOf s) n) r
+          over true t =
               let l = ltb-true n levelCount t in
               let fs = level (stateOf s) n in
-              let over : keep (overlaps w) fs ≡ overlapping n fs r =
-              ⊎-elim (λ x. overlapping-first n fs r w (x .0) (x .1)) (λ x. ap (λ (x : Range). keep (overlaps x) fs) (x .1) ∙ overlapping-deeper n fs r (x .0)) (wide-level l w v) in
-              let found : Gathered (s .files) (startAt s n) (endAt s n) f = rw (from-level l, to-level l) at (g .0) in
-              (level-known s n f found, g .1 ∙ ap (λ (gs : List File). upTo (a .most) 0 (keep (overlaps w) gs)) (is-level l) ∙ rw most (ap (upTo (askedMost c k) 0) over))
-          go false t =
+              ⊎-elim (λ x. overlapping-first n fs r w (x .0) (x .1)) (λ x. ap (λ (x : Range). keep (overlaps x) fs) (x .1) ∙ overlapping-deeper n fs r (x .0)) (wide-level l w v)
+          over false t =
               let l = ltb-false n levelCount t in
-              let fs = level (stateOf s) n in
-              let starts = from-past l in
-              let ends = to-past l in
-              let fits = g .0 .fits in
-              let over : overlapping n fs r ≡ [] = sym (overlapping-deeper n fs r (λ z. omega arith)) ∙ ap (keep (overlaps r)) (level-past l) in (
-                record { held = record { few = omega arith; below = omega arith }; sums = g .0 .sums },
-                g .1 ∙ ap (λ (gs : List File). upTo (a .most) 0 (keep (overlaps w) gs)) (run-ended (a .from) (a .to) (s .files) (omega arith)) ∙ sym (ap (upTo (askedMost c k) 0) over),
-              )
+              let none = level-past l in
+              ap (keep (overlaps w)) none ∙ sym (ap (keep (overlaps r)) none) ∙ overlapping-deeper n (level (stateOf s) n) r (λ z. omega arith)
 
     module _ (h : wellStore s ≡ true) (q : length (s .files) ≡ maxFiles) where
       -- its places are within the room, and the files that overlap stand side by side
       pub asked-findable : Findable (s .files) a
-      asked-findable = ?
+      asked-findable = record { room = asked-ends (files-room s n h); side = λ w v. asked-contiguous h q w v }
+
+      -- its places hold records
+      asked-size : a .to ≤ length (s .files)
+      asked-size = omega (arith, asked-ends (files-room s n h))
 
       module _ (f : FoundRun) (o : Overlaps (s .files) a f) where
         -- the files found are those of the level that overlap, up to the limit
         pub asked-overlap : Known s n f × (inputsOf s f ≡ overBy s c k)
-        asked-overlap = ?
+        asked-overlap = asked-found h q (o .wide) (o .widest) f (o .finds)
 
         -- files can be taken after them
         pub asked-takable : Takable (s .files) (a .to) f
-        asked-takable = ?
+        asked-takable =
+            let found = o .finds .0 in
+            let starts = found .starts in
+            let fits = found .fits in
+            let small = asked-contiguous h q (o .wide) (o .widest) .small in
+            let next = f .from + f .count in
+            let left = ap total (run-parts (s .files) (a .from) (a .to) asked-size (f .from) starts (omega arith)) ∙ total-joined (run (a .from) (f .from) (s .files)) (run (f .from) (a .to) (s .files)) in
+            let right = ap total (run-parts (s .files) (f .from) (a .to) asked-size next (omega arith) fits) ∙ total-joined (run (f .from) next (s .files)) (run next (a .to) (s .files)) in
+            record { fits = fits; room = asked-ends (files-room s n h); sums = found .sums; small = omega (arith, found .sums .bytes-are) }
+
+        module _ (l : FoundRun) (g : Takes (s .files) a true f l) where
+          -- if the search does not complete, they stay as they are
+          asked-kept : askedEdges n k ≡ false → inputsOf s l ≡ inputsOf s f
+          unfolding questionOf inputsOf
+          asked-kept e = not-completed (s .files) (a .from) a f l asked-size (o .finds .0 .starts) (o .finds .0 .fits) g e
+
+          -- if it does, they are completed in the level
+          asked-closed : askedEdges n k ≡ true → inputsOf s l ≡ completed (level (stateOf s) n) (inputsOf s f)
+          unfolding questionOf inputsOf
+          asked-closed e =
+              let line = subst Line (sym is-all) (deeper-line s n h (edges-deeper n k e)) in
+              is-completed (s .files) (a .from) a f l asked-size (o .finds .0 .starts) (o .finds .0 .fits) g e line ∙ ap (λ (fs : List File). completed fs (inputsOf s f)) is-all
 
         -- the same completed, if the search completes
         pub asked-completed : (l : FoundRun) → Takes (s .files) a true f l → Known s n l × (inputsOf s l ≡ foundBy s c k)
-        asked-completed l g = ?
+        asked-completed l g =
+            let starts = g .starts in
+            let least = o .finds .0 .starts in
+            (asked-known l record { starts = omega arith; fits = g .fits; sums = g .sums }, go (askedEdges n k) refl)
+          where
+            go : (t : Bool) → askedEdges n k ≡ t → inputsOf s l ≡ cond t (completed (level (stateOf s) n) (overBy s c k)) (overBy s c k)
+            go true e = asked-closed l g e ∙ ap (completed (level (stateOf s) n)) (asked-overlap .1)
+            go false e = asked-kept l g e ∙ asked-overlap .1
 
 -- ---- from one search to the next
 -- a store with these files, counts, pointers and counters

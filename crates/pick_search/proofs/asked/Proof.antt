@@ -2,7 +2,7 @@
 use Prim.Native.Nat.{ℕ, _+_}
 use mathlib.Core.Path.{_≡_, sym, ap, _∙_}
 use mathlib.Core.Logic.{⊎-elim}
-use mathlib.Core.Bool.{cond}
+use mathlib.Core.Bool.{Bool, cond}
 use mathlib.Core.List.{List}
 use native.Mathlib.Omega.{arith}
 use lib.Dec.{eqb, ltb}
@@ -14,7 +14,7 @@ use Rattle.lemmas.specs.Slices.{sum-upto}
 use Rattle.model.specs.File.{levelCount}
 use Rattle.pick_range.specs.declared.Span.{Span}
 use Rattle.pick_search.specs.declared.Choice.{Choice}
-use Rattle.pick_search.specs.Choice.{askedLevel, askedSpan, askedMost, questionOf}
+use Rattle.pick_search.specs.Choice.{askedLevel, askedSpan, askedMost, askedEdges, questionOf}
 use Rattle.pick_search.proofs.asked.Statement.{statement}
 use Rattle.pick_search.proofs.asked.Tie as tie
 
@@ -41,16 +41,20 @@ asked-span-requires c κs = search needs
 asked-most-requires : tie.Need-asked-most-requires
 asked-most-requires c κs = search needs
 
+asked-edges-requires : tie.Need-asked-edges-requires
+asked-edges-requires c κs = search needs
+
 -- a question, part by part
-question-is : (c : Choice) (k : ℕ) (counts : List ℕ) (n from to most : ℕ) (span : Span)
-    → n ≡ askedLevel (c .level) k → from ≡ cond (ltb n levelCount) (sum (take n counts)) 0 → to ≡ from + getD counts n 0 → span ≡ askedSpan c k → most ≡ askedMost c k
-    → record { from = from; to = to; widens = eqb n 0; span = span; most = most } ≡ questionOf c k counts
+question-is : (c : Choice) (k : ℕ) (counts : List ℕ) (n from to most : ℕ) (span : Span) (edges : Bool)
+    → n ≡ askedLevel (c .level) k → from ≡ cond (ltb n levelCount) (sum (take n counts)) 0 → to ≡ from + getD counts n 0 → span ≡ askedSpan c k → most ≡ askedMost c k → edges ≡ askedEdges n k
+    → record { from = from; to = to; widens = eqb n 0; span = span; most = most; edges = edges } ≡ questionOf c k counts
 unfolding questionOf
-question-is c k counts n from to most span e f t s m = rw (t, f, s, m, e)
+question-is c k counts n from to most span edges e f t s m d = rw (t, f, s, m, d, e)
 
 returns : tie.Need-returns
 returns c =
-    let i = c .before .before in
+    let b = c .before in
+    let i = b .before .before in
     let l = i .before in
     let a = l .before .args in
     let n = l .asked-level .result in
@@ -59,7 +63,7 @@ returns c =
     let to : i .if1 .to ≡ i .if1 .from + getD (a .t3) n 0 =
     ⊎-elim (λ w. w .3 ∙ ap (λ (m : ℕ). m + getD (a .t3) n 0) (sym (w .2)))
     (λ w. let none : getD (a .t3) n 0 ≡ 0 = List·getD-eq-default (a .t3) 0 (omega (arith, w .0 .left)) in omega (arith, w .1, w .2)) (i .if1 .came) in
-    question-is (a .c) (a .k) (a .t3) n (i .if1 .from) (i .if1 .to) (c .asked-most .result) (c .before .asked-span .result) (l .asked-level .ensures) from to (c .before .asked-span .ensures) (c .asked-most .ensures)
+    question-is (a .c) (a .k) (a .t3) n (i .if1 .from) (i .if1 .to) (b .asked-most .result) (b .before .asked-span .result) (c .asked-edges .result) (l .asked-level .ensures) from to (b .before .asked-span .ensures) (b .asked-most .ensures) (c .asked-edges .ensures)
 
 pub asked-spec : {M : Type 1} → statement M
 asked-spec =
@@ -72,4 +76,5 @@ asked-spec =
     add-to
     asked-span-requires
     asked-most-requires
+    asked-edges-requires
     returns)

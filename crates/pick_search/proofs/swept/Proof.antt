@@ -7,17 +7,16 @@ use lib.Dec.{ltb}
 use borrow.Author.Tests.{not-true, not-false}
 use borrow.Author.Needs.{needs}
 use Rattle.lemmas.specs.Order.{clash}
-use Rattle.pick_search.specs.Search.{takes}
+use Rattle.pick_search.specs.Search.{takesNext}
 use Rattle.pick_search.proofs.swept.Statement.{statement}
 use Rattle.pick_search.proofs.swept.Tie as tie
 
-is-taken-requires : tie.Need-is-taken-requires
-is-taken-requires c κs = search needs
+takes-next-requires : tie.Need-takes-next-requires
+takes-next-requires c κs = search needs
 
 returns : tie.Need-returns
-unfolding takes
 returns c =
-    let e = sym (c .before .is-taken .ensures) ∙ not-true (c .before .is-taken .result) (c .if1 .taken) in
+    let e = sym (c .before .takes-next .ensures) ∙ not-true (c .before .takes-next .result) (c .if1 .taken) in
     record { ends = λ h. refl; grows = λ h. clash h e; goes-on = λ h. clash h e }
 
 with-file-requires : tie.Need-with-file-requires
@@ -27,13 +26,12 @@ add-next : tie.Need-add-next
 add-next c = search needs
 
 returns-2 : tie.Need-returns-2
-unfolding takes
 returns-2 c =
     let w = c .before .before .with-file .ensures in
     let b = c .before .before .before .before in
-    let a = b .before .before .before .args in
-    let t = takes (a .q) (a .w .found) (a .f) in
-    let e : t ≡ true = _∙_ {a = t} (sym {b = t} (b .is-taken .ensures)) (not-false (b .is-taken .result) (c .before .before .before .if1 .left)) in
+    let a = b .before .before .args in
+    let t = takesNext (a .q) (a .edge) (a .w .found) (a .f) in
+    let e : t ≡ true = _∙_ {a = t} (sym {b = t} (b .takes-next .ensures)) (not-false (b .takes-next .result) (c .before .before .before .if1 .left)) in
     let same : c .before .before .with-file .result .from + c .before .before .with-file .result .count ≡ a .w .found .from + a .w .found .count + 1 = omega (arith, w .0, w .1) in
     record {
       ends = λ h. clash e h;
@@ -42,4 +40,4 @@ returns-2 c =
     }
 
 pub swept-spec : {M : Type 1} → statement M
-swept-spec = tie.close (tie.spec is-taken-requires returns with-file-requires add-next returns-2)
+swept-spec = tie.close (tie.spec takes-next-requires returns with-file-requires add-next returns-2)
