@@ -34,22 +34,28 @@ use Rattle.pick_search.specs.InvariantLaws.{invariant-ready, invariant-one}
 use Rattle.pick_answer.specs.declared.Cause.the-variants.{Size, Manual}
 use Rattle.pick_answer.specs.Picked.{causeOf}
 use Rattle.pick_range.specs.Ranges.{spanOf, spanRecord}
+use Rattle.pick_plan.specs.declared.Start.the-variants.{At, Nothing}
+use Rattle.pick_plan.specs.declared.Started.{Started}
 use Rattle.pick_plan.specs.Plans.{picksFrom}
 use Rattle.pick_plan.specs.ChoiceLaws.{manual-limited, completed-none, completed-some}
 use Rattle.pick_plan.specs.Starts.{limitOf, searchOf, Starts}
+use Rattle.pick_plan.specs.OneLaws.{begins-nowhere, begins-at}
 
 -- ---- a size pick
 -- the choice that its searches begin with
 unfoldable pub oneAsked : ℕ → ℕ → FoundRun → Choice
 oneAsked n m a = filledWith (begun n m (rangeFound a) maxWord) 0 a
 
--- files to start with: work is due
-module _ (s : Store) (n m : ℕ) (a : FoundRun) (z : Starts s n true a) (c : Choice) (k : ℕ) (e : c ≡ oneAsked n m a) (f : k ≡ searchOf n) where
+-- a start where work is due
+module _ (s : Store) (n m : ℕ) (z : Started) (g : Starts s n true z) (c : Choice) (k : ℕ) (e : c ≡ oneAsked n m (z .first)) (f : k ≡ searchOf n) where
   -- it is ready for its first search
   pub size-stands : SearchInvariant s (firsts s k c) k c
   unfolding oneAsked firsts searchOf filledWith begun
-  size-stands = rw (e, f) (go n (z .known))
+  size-stands = rw (e, f) (go n (g .known))
     where
+      a : FoundRun
+      a = z .first
+
       go : (n : ℕ) → Known s n a → SearchInvariant s (firsts s (searchOf n) (oneAsked n m a)) (searchOf n) (oneAsked n m a)
       go zero h = invariant-ready s 0 m maxWord (rangeFound a) a (h .held)
       go (suc n) h = invariant-one s (suc n) m maxWord (rangeFound a) a h
@@ -57,9 +63,12 @@ module _ (s : Store) (n m : ℕ) (a : FoundRun) (z : Starts s n true a) (c : Cho
   -- its first inputs are the model's
   pub size-firsts : wellStore s ≡ true → n < levelCount → firsts s k c ≡ sizeInputs n (pointer (stateOf s) n) (level (stateOf s) n)
   unfolding oneAsked firsts searchOf filledWith begun sizeInputs completedAt
-  size-firsts h below = rw (e, f) (go n z below)
+  size-firsts h below = rw (e, f) (go n g below)
     where
-      go : (n : ℕ) → Starts s n true a → n < levelCount → firsts s (searchOf n) (oneAsked n m a) ≡ sizeInputs n (pointer (stateOf s) n) (level (stateOf s) n)
+      a : FoundRun
+      a = z .first
+
+      go : (n : ℕ) → Starts s n true z → n < levelCount → firsts s (searchOf n) (oneAsked n m a) ≡ sizeInputs n (pointer (stateOf s) n) (level (stateOf s) n)
       go zero g b = all-taken s 0 h b (upTo maxWord 0 (overlapping 0 (level (stateOf s) 0) (spanOf (rangeFound a)))) (spanOf (rangeFound a))
           (rangeOf (Option·toList (startFile (pointer (stateOf s) 0) (level (stateOf s) 0)))) refl (known-range a s 0 (g .known) ∙ ap rangeOf (g .are))
       go (suc n) g b = g .are
@@ -76,35 +85,40 @@ start-empty (some k) (f ∷ fs) = go (find (λ g. before k (g .largest)) (f ∷ 
     go none = refl
     go (some g) = refl
 
--- the files to start with are found by whether work is due
-module _ (s : Store) (n : ℕ) (h : wellStore s ≡ true) (q : length (s .files) ≡ maxFiles) (a : FoundRun) (z : Starts s n (due (score (stateOf s) n)) a) where
-  -- there are as many as the count says
-  start-count : length (inputsOf s a) ≡ a .count
-  start-count = held-count s n a h q (z .known .held)
+-- a start by whether work is due
+module _ (s : Store) (n : ℕ) (h : wellStore s ≡ true) (q : length (s .files) ≡ maxFiles) (z : Started) (g : Starts s n (due (score (stateOf s) n)) z) where
+  -- there are as many files as the count says
+  start-count : length (inputsOf s (z .first)) ≡ z .first .count
+  start-count = held-count s n (z .first) h q (g .known .held)
 
   -- the files, if work is due or not
   abbrev startsBy : Bool → List File
   startsBy d = completedAt n (level (stateOf s) n) (Option·toList (cond d (startFile (pointer (stateOf s) n) (level (stateOf s) n)) none))
 
-  -- if there are none, no work is due
-  pub nothing-due : a .count ≡ 0 → due (score (stateOf s) n) ≡ false
-  nothing-due e = go (due (score (stateOf s) n)) refl (z .are)
+  -- if it has no place, no work is due
+  pub nothing-due : z .start ≡ Nothing → due (score (stateOf s) n) ≡ false
+  nothing-due e = go (due (score (stateOf s) n)) refl (g .are)
     where
-      go : (d : Bool) → due (score (stateOf s) n) ≡ d → inputsOf s a ≡ startsBy d → d ≡ false
+      go : (d : Bool) → due (score (stateOf s) n) ≡ d → inputsOf s (z .first) ≡ startsBy d → d ≡ false
       go true t are =
           let fs = level (stateOf s) n in
           let some-file = completed-some n fs (Option·toList (startFile (pointer (stateOf s) n) fs)) ∙ start-empty (pointer (stateOf s) n) fs ∙ due-nonempty (stateOf s) n t in
-          clash (none-left (inputsOf s a) (start-count ∙ e)) (ap isEmpty are ∙ some-file)
+          clash (none-left (inputsOf s (z .first)) (start-count ∙ begins-nowhere (z .first) (sym (g .start) ∙ e))) (ap isEmpty are ∙ some-file)
       go false t are = refl
 
-  -- if there are some, work is due
-  pub some-due : (a .count ≡ 0 → ⊥) → due (score (stateOf s) n) ≡ true
-  unfolding Option·toList
-  some-due e = go (due (score (stateOf s) n)) refl (z .are)
-    where
-      go : (d : Bool) → due (score (stateOf s) n) ≡ d → inputsOf s a ≡ startsBy d → d ≡ true
-      go true t are = refl
-      go false t are = absurd (e (sym start-count ∙ ap length (are ∙ completed-none n (level (stateOf s) n))))
+  module _ (i : ℕ) (e : z .start ≡ At i) where
+    -- if it has one, work is due
+    pub found-due : due (score (stateOf s) n) ≡ true
+    unfolding Option·toList
+    found-due = go (due (score (stateOf s) n)) refl (g .are)
+      where
+        go : (d : Bool) → due (score (stateOf s) n) ≡ d → inputsOf s (z .first) ≡ startsBy d → d ≡ true
+        go true t are = refl
+        go false t are = absurd (begins-at (z .first) i (sym (g .start) ∙ e) .0 (sym start-count ∙ ap length (are ∙ completed-none n (level (stateOf s) n))))
+
+    -- its files begin there
+    pub found-at : record { from = i; count = z .first .count; ends = z .first .ends; bytes = z .first .bytes } ≡ z .first
+    found-at = let same = begins-at (z .first) i (sym (g .start) ∙ e) .1 in λ t. record { from = sym same t; count = z .first .count; ends = z .first .ends; bytes = z .first .bytes }
 
 module _ (s : Store) (m : ℕ) where
   -- not well-formed: 14
