@@ -1,16 +1,18 @@
 -- Laws of a pick's choice: the maximum file size, and the first inputs. Assumes nothing.
-use Prim.Native.Nat.{ℕ, zero, suc, _+_, _-_, _^_, _≤_, _<_}
+use Prim.Native.Nat.{ℕ, zero, suc, _+_, _-_, _≤_, _<_}
 use mathlib.Core.Path.{_≡_, refl, sym, ap, _∙_}
 use mathlib.Core.Bool.{Bool, true, false, not, _&&_}
-use mathlib.Core.List.{List, [], _∷_, List·Memᴰ as In, List·Memᴰ·head as here, List·Memᴰ·tail as there}
+use mathlib.Core.List.{List, [], _∷_}
 use native.Mathlib.Omega.{arith}
 use lib.Dec.{ltb, leb}
 use lib.ListN.{length}
 use lib.Seq.{length-take-le}
 use borrow.Author.Tests.{ltb-true, ltb-false, lt-leb, le-leb, leb-true, not-false}
-use Rattle.lemmas.specs.ListLaws.{and-right, sub-all}
-use Rattle.lemmas.specs.Lists.{keep, push, find, isEmpty}
+use Rattle.lemmas.specs.ListLaws.{and-right, keep-none, sub-all}
+use Rattle.lemmas.specs.Lists.{find, isEmpty}
 use Rattle.lemmas.specs.Order.{lexb, clash}
+use Rattle.model.specs.Completion.{completed, completedAt, inputs}
+use Rattle.model.specs.CompletionLaws.{completed-empty}
 use Rattle.model.specs.File.{File, full, level, goodFile, levelCount, maxFiles, maxWord}
 use Rattle.model.specs.Formed.{goodFile-says}
 use Rattle.model.specs.Key.{Key, user, userBefore, goodKey}
@@ -78,11 +80,25 @@ unfolding limitOf
 limit-deeper m zero e = absurd (e refl)
 limit-deeper m (suc l) e = refl
 
--- the files taken up to this limit are the manual inputs
-pub manual-limited : (s : Store) (m l : ℕ) (r : Range) → wellStore s ≡ true → l < levelCount → upTo (limitOf m l) 0 (overlapping l (level (stateOf s) l) r) ≡ manualInputs m l (level (stateOf s) l) r
-unfolding manualInputs limitOf
+-- the files taken up to this limit, completed above level 0, are the manual inputs
+pub manual-limited : (s : Store) (m l : ℕ) (r : Range) → wellStore s ≡ true → l < levelCount
+    → completedAt l (level (stateOf s) l) (upTo (limitOf m l) 0 (overlapping l (level (stateOf s) l) r)) ≡ manualInputs m l (level (stateOf s) l) r
+unfolding manualInputs limitOf completedAt
 manual-limited s m zero r h k = all-taken s 0 h k (upTo maxWord 0 (overlapping 0 (level (stateOf s) 0) r)) r r refl refl
 manual-limited s m (suc l) r h k = refl
+
+-- ---- completed lists
+-- of no files nothing is completed
+pub completed-none : (l : ℕ) (fs : List File) → completedAt l fs [] ≡ []
+unfolding completedAt completed
+completed-none zero fs = refl
+completed-none (suc l) fs = refl
+
+-- a completed list is empty just where the list is
+pub completed-some : (l : ℕ) (fs xs : List File) → isEmpty (completedAt l fs xs) ≡ isEmpty xs
+unfolding completedAt
+completed-some zero fs xs = refl
+completed-some (suc l) fs xs = completed-empty fs xs
 
 -- ---- no first inputs: none after growth either
 -- a user key with a byte is after the empty one
@@ -107,20 +123,15 @@ none-overlaps f g = rw (after-none (user (f .smallest)) (user-some (f .smallest)
     go true = refl
     go false = refl
 
--- if no item passes, none is kept
-keep-none : (p : File → Bool) (fs : List File) → ((f : File) → In f fs → p f ≡ false) → keep p fs ≡ []
-unfolding keep push
-keep-none p [] h = refl
-keep-none p (f ∷ fs) h = rw (h f (here refl)) (keep-none p fs (λ g m. h g (there m)))
-
 -- so no file is chosen
-none-chosen : (s : Store) (m l : ℕ) → wellStore s ≡ true → l + 1 < levelCount → grownFirst (stateOf s) m l [] (overlapping (l + 1) (level (stateOf s) (l + 1)) (rangeOf [])) ≡ []
-unfolding grownFirst grows isEmpty
+none-chosen : (s : Store) (m l : ℕ) → wellStore s ≡ true → l + 1 < levelCount → grownFirst (stateOf s) m l [] (inputs (l + 1) (level (stateOf s) (l + 1)) (rangeOf [])) ≡ []
+unfolding grownFirst grows isEmpty inputs
 none-chosen s m l h k =
     let fs = level (stateOf s) (l + 1) in
     let good = level-part s (l + 1) h k fs (sub-all fs) .0 .good in
     let none : overlapping (l + 1) fs (rangeOf []) ≡ [] = sym (overlapping-deeper (l + 1) fs (rangeOf []) (λ z. omega arith)) ∙ keep-none (overlaps (rangeOf [])) fs (λ f i. none-overlaps f (good f i)) in
-    rw none
+    let second : completedAt (l + 1) fs (overlapping (l + 1) fs (rangeOf [])) ≡ [] = ap (completedAt (l + 1) fs) none ∙ completed-none (l + 1) fs in
+    rw second
 
 -- a pick without first inputs at the end had none at the start
 pub none-first : (s : Store) (fs : List File) (c : Choice) → wellStore s ≡ true → length (s .files) ≡ maxFiles → SearchInvariant s fs 5 c → c .first .count ≡ 0 → isEmpty fs ≡ true

@@ -50,7 +50,7 @@ unfolding answerOf orRefused noPlan
 plans-none s a n p e f = rw (e, f) record { answers = refl; feasible = record { ready = λ d. refused-done n d; level = λ d. refused-done n d } }
 
 -- an accepted plan gives the pick from its first search on
-pub plans-done : (s : Store) (a : Answer model.Pick) (x : Cause) (c : Choice) (k : ℕ) → picksFrom s x c k ≡ a → Ready s c k 5 → c .level < lastLevel → Plans s a (record { outcome = Done; cause = x; asked = c; search = k })
+pub plans-done : (s : Store) (a : Answer model.Pick) (x : Cause) (c : Choice) (k : ℕ) → picksFrom s x c k ≡ a → Ready s c k → c .level < lastLevel → Plans s a (record { outcome = Done; cause = x; asked = c; search = k })
 unfolding answerOf orRefused
 plans-done s a x c k e r l = record { answers = e; feasible = record { ready = λ d. r; level = λ d. l } }
 
@@ -126,7 +126,7 @@ module _ (x : Cause) (c : Choice) where
   ended-level l = by-end (λ e. e .choice .level < levelCount) (λ e. omega arith) (λ e. omega arith)
 
 -- its files are in the store
-pub ended-placed : (s : Store) (x : Cause) (a : Choice) (k : ℕ) (c : Choice) → Chooses s a k 5 c → Placed s (endOf x c .choice)
+pub ended-placed : (s : Store) (x : Cause) (a : Choice) (k : ℕ) (c : Choice) → Chooses s a k c → Placed s (endOf x c .choice)
 unfolding noChoice
 ended-placed s x a k c g =
     by-end x c (λ e. Placed s (e .choice)) (λ e. record { inputs = firsts s 0 noChoice; search = 0; stands = invariant-begun s 0 0 0 (spanRecord (between [] [])) })
@@ -138,7 +138,7 @@ unfolding laidChoice noChoice begun noneAt inputsOf
 blank-choice s = ap (λ (fs : List File). laidOut (fs ∷ fs ∷ fs ∷ [])) (run-ended 0 0 (s .files) (omega arith))
 
 -- ---- a pick at the end of its searches
-module _ (s : Store) (q : StoreShape s) (h : wellStore s ≡ true) (x : Cause) (a : Choice) (k : ℕ) (c : Choice) (below : a .level < lastLevel) (g : Chooses s a k 5 c) where
+module _ (s : Store) (q : StoreShape s) (h : wellStore s ≡ true) (x : Cause) (a : Choice) (k : ℕ) (c : Choice) (below : a .level < lastLevel) (g : Chooses s a k c) where
   -- what it leaves, by the result of its searches
   abbrev Leaves : Ending → Type 0
   Leaves e = Makes s (picksFrom s x a k) (takenBy e (laidChoice s (e .choice))) (pointersBy (s .pointers) (e .choice))
@@ -185,7 +185,7 @@ module _ (s : Store) (q : StoreShape s) (h : wellStore s ≡ true) (x : Cause) (
       }
 
 -- its answer is the pick from its first search on, and its pointers are those that the pick leaves
-pub ended-makes : (s : Store) → StoreShape s → wellStore s ≡ true → (x : Cause) (a : Choice) (k : ℕ) (c : Choice) → a .level < lastLevel → Chooses s a k 5 c
+pub ended-makes : (s : Store) → StoreShape s → wellStore s ≡ true → (x : Cause) (a : Choice) (k : ℕ) (c : Choice) → a .level < lastLevel → Chooses s a k c
     → Makes s (picksFrom s x a k) (takenBy (endOf x c) (laidChoice s (endOf x c .choice))) (pointersBy (s .pointers) (endOf x c .choice))
 ended-makes s q h x a k c below g =
     by-end x c (Leaves s q h x a k c below g) (given-nothing s q h x a k c below g)

@@ -1,4 +1,4 @@
--- Laws of the search for the file to start with: turn by turn, and the file that it finds. Assumes nothing.
+-- Laws of the search for the file to start with: turn by turn, the place that it finds, and the file there. Assumes nothing.
 use Prim.Native.Nat.{ℕ, _+_, _-_, _≤_, _<_, min}
 use mathlib.Core.Path.{_≡_, refl, sym, ap, _∙_}
 use mathlib.Core.Bool.{Bool, true, false, _&&_, cond}
@@ -10,7 +10,7 @@ use borrow.Author.Tests.{ltb-true, ltb-false, lt-ltb, le-ltb}
 use lib.ListN.{length, getD}
 use lib.Seq.{slice}
 use Rattle.lemmas.specs.Order.{clash}
-use Rattle.lemmas.specs.Lists.{find, upFrom, isEmpty}
+use Rattle.lemmas.specs.Lists.{find, sum, upFrom}
 use Rattle.lemmas.specs.ListLaws.{find-some, upFrom-in}
 use Rattle.lemmas.specs.Loops.{find-here, find-later}
 use Rattle.lemmas.specs.Maps.{find-map}
@@ -31,8 +31,7 @@ use Rattle.store.specs.StoreLaws.{past as pastPointer}
 use Rattle.pick_found.specs.FoundRun.{fileAt, startAt, endAt}
 use Rattle.pick_found.specs.CallsLaws.{level-run, level-ends, files-room}
 use Rattle.bisect.specs.declared.Window.{Window}
-use Rattle.pick_plan.specs.declared.Start.the-variants.{At, Nothing}
-use Rattle.pick_plan.specs.Starts.{noStart, startedAt, firstPlace, startPlace, startIn, fromPlace, startedIn, placesOf, nearerBy, placeOr, firstAfter, startAmong}
+use Rattle.pick_plan.specs.Starts.{firstPlace, startPlace, startIn, placesOf, nearerBy, placeOr, firstAfter, startAmong}
 
 -- ---- the search, turn by turn
 module _ (i to : ℕ) (files : List FileRecord) where
@@ -151,55 +150,14 @@ start-among o from to files i g e =
     among none z = first (placesFrom from to files) z
     among (some k) z = either k (find (isAfter k files) (placesFrom from to files)) refl z
 
--- if there is no file to start with, the list is empty
-no-start : (o : Option Key) (fs : List File) → startFile o fs ≡ none → isEmpty fs ≡ true
-unfolding startFile firstFile isEmpty orElse
-no-start o [] e = refl
-no-start none (f ∷ fs) e = let w : true ≡ false = cc in clash refl w
-no-start (some k) (f ∷ fs) e = go (find (λ g. before k (g .largest)) (f ∷ fs)) e
-  where
-    go : (x : Option File) → orElse x (some f) ≡ none → false ≡ true
-    go none z = let w : true ≡ false = cc in clash refl w
-    go (some g) z = let w : true ≡ false = cc in clash refl w
-
 -- ---- at a level of a store
-module _ (s : Store) (n : ℕ) (h : wellStore s ≡ true) (q : length (s .files) ≡ maxFiles) (c : n < length (s .counts)) (p : n < length (s .pointers)) where
-  -- the file at the place found is the model's
-  start-file : Option·map (fileAt (s .files)) (startIn s n) ≡ startFile (pointer (stateOf s) n) (level (stateOf s) n)
-  unfolding startIn pointer stateOf
-  start-file =
-      start-is (pointerOf (getD (s .pointers) n pastPointer)) (startAt s n) (endAt s n) (s .files)
-      ∙ ap (λ (fs : List File). startFile (pointerOf (getD (s .pointers) n pastPointer)) fs) (sym (level-run s n c))
-      ∙ ap (λ (o : Option Key). startFile o (level (stateOf s) n)) (sym (getD-map pointerOf (s .pointers) n pastPointer none p))
-
-  -- a place is found: the file there is the model's
-  pub start-found : (i : ℕ) → startIn s n ≡ some i → startFile (pointer (stateOf s) n) (level (stateOf s) n) ≡ some (fileAt (s .files) i)
-  start-found i e = sym start-file ∙ ap (Option·map (fileAt (s .files))) e
-
-  -- the place is one of the level's
-  pub start-within : (i : ℕ) → startIn s n ≡ some i → (startAt s n ≤ i) × (i < endAt s n)
-  unfolding startIn
-  start-within i e =
-      let room = files-room s n h in
-      let ends = level-ends s n in
-      start-among (pointerOf (getD (s .pointers) n pastPointer)) (startAt s n) (endAt s n) (s .files) i (omega arith) e
-
-  -- nothing is found: the level is empty
-  pub start-nothing : startIn s n ≡ none → isEmpty (level (stateOf s) n) ≡ true
-  start-nothing e = no-start (pointer (stateOf s) n) (level (stateOf s) n) (sym start-file ∙ ap (Option·map (fileAt (s .files))) e)
-
--- ---- what the search answers
--- a place: the file there is given with it
-pub from-at : (s : Store) (o : Option ℕ) (i : ℕ) → fromPlace s o .start ≡ At i → (o ≡ some i) × (fromPlace s o .file ≡ getD (s .files) i past)
-unfolding fromPlace noStart startedAt
-from-at s none i e = let w : true ≡ false = cc in clash refl w
-from-at s (some j) i e = let q : j ≡ i = cc in (ap some q, ap (λ (k : ℕ). getD (s .files) k past) q)
-
--- nothing: there is no place
-pub from-none : (s : Store) (o : Option ℕ) → fromPlace s o .start ≡ Nothing → o ≡ none
-unfolding fromPlace noStart startedAt
-from-none s none e = refl
-from-none s (some i) e = let w : true ≡ false = cc in clash refl w
+-- the file at the place found is the model's
+start-file : (s : Store) (n : ℕ) → n < length (s .counts) → n < length (s .pointers) → Option·map (fileAt (s .files)) (startIn s n) ≡ startFile (pointer (stateOf s) n) (level (stateOf s) n)
+unfolding startIn pointer stateOf
+start-file s n c p =
+    start-is (pointerOf (getD (s .pointers) n pastPointer)) (startAt s n) (endAt s n) (s .files)
+    ∙ ap (λ (fs : List File). startFile (pointerOf (getD (s .pointers) n pastPointer)) fs) (sym (level-run s n c))
+    ∙ ap (λ (o : Option Key). startFile o (level (stateOf s) n)) (sym (getD-map pointerOf (s .pointers) n pastPointer none p))
 
 -- ---- the place, step by step
 -- after the first place is seen, the places that are left give the same answer
@@ -263,59 +221,75 @@ steps-place z p files h g = go (z .set) refl (find (isAfter (keyOf (z .key)) fil
         let within = start-among (pointerOf z) (p .lo) (p .hi) files j g start in
         start ∙ ap some (sym found ∙ sym (among-found p (z .set) i h e (omega (arith, within .1))))
 
-module _ (s : Store) (q : StoreShape s) (h : wellStore s ≡ true) (n : ℕ) (l : n < levelCount) (d : Bool) where
+-- ---- where a size pick starts
+module _ (s : Store) (n : ℕ) (d : Bool) where
+  -- the places to start among
+  abbrev pub places : Window
+  places = placesOf (s .counts) n d
+
+  -- the place to start with
+  abbrev pub startsAt : ℕ
+  startsAt =
+      let z = getD (s .pointers) n pastPointer in
+      startAmong places (z .set) (firstAfter (keyOf (z .key)) places (s .files))
+
+-- if work is due, the places are the level's
+pub places-due : (s : Store) (n : ℕ) (d : Bool) → d ≡ true → places s n d ≡ record { lo = startAt s n; hi = endAt s n }
+unfolding placesOf
+places-due s n d e = rw e
+
+-- a place to start with: work is due, it is one of the level's, and the file there is the model's start file
+pub record Begins (s : Store) (n : ℕ) (d : Bool) (j : ℕ) : Type 0 where
+  pub is-due : d ≡ true
+  pub least : startAt s n ≤ j
+  pub below : j < endAt s n
+  pub is : startFile (pointer (stateOf s) n) (level (stateOf s) n) ≡ some (fileAt (s .files) j)
+
+module _ (s : Store) (q : StoreShape s) (h : wellStore s ≡ true) (n : ℕ) (l : n < levelCount) where
   -- the places of a level are in order and within the room
-  pub start-places-room : (placesOf (s .counts) n d .hi ≤ maxFiles) × (placesOf (s .counts) n d .lo ≤ placesOf (s .counts) n d .hi)
+  pub start-places-room : (d : Bool) → (places s n d .hi ≤ maxFiles) × (places s n d .lo ≤ places s n d .hi)
   unfolding placesOf
-  start-places-room = go d
-    where
-      go : (d : Bool) → (placesOf (s .counts) n d .hi ≤ maxFiles) × (placesOf (s .counts) n d .lo ≤ placesOf (s .counts) n d .hi)
-      go true = (omega (arith, level-ends s n, files-room s n h), omega arith)
-      go false = (omega arith, omega arith)
+  start-places-room true = (omega (arith, level-ends s n, files-room s n h), omega arith)
+  start-places-room false = (omega arith, omega arith)
+
+  -- they hold files
+  pub start-places-held : (d : Bool) → places s n d .hi ≤ sum (s .counts)
+  unfolding placesOf
+  start-places-held true = level-ends s n
+  start-places-held false = omega arith
+
+  -- if there are places, a size pick begins at the one found
+  pub start-some : (d : Bool) → places s n d .lo < places s n d .hi → Begins s n d (startsAt s n d)
+  unfolding placesOf startIn
+  start-some false k = absurd (omega arith)
+  start-some true k =
+      let z = getD (s .pointers) n pastPointer in
+      let p = places s n true in
+      let size = q .files in
+      let counts = q .counts in
+      let pointers = q .pointers in
+      let place = steps-place z p (s .files) k (omega (arith, start-places-room true .0)) in
+      let within = start-among (pointerOf z) (p .lo) (p .hi) (s .files) (startsAt s n true) (omega (arith, start-places-room true .0)) place in
+      record { is-due = refl; least = within .0; below = within .1; is = sym (start-file s n (omega arith) (omega arith)) ∙ ap (Option·map (fileAt (s .files))) place }
+
+  -- if there are none, there is no file to start with, or no work is due
+  pub start-nothing : (d : Bool) → places s n d .hi ≤ places s n d .lo → cond d (startFile (pointer (stateOf s) n) (level (stateOf s) n)) none ≡ none
+  unfolding placesOf startIn
+  start-nothing false k = refl
+  start-nothing true k =
+      let counts = q .counts in
+      let pointers = q .pointers in
+      sym (start-file s n (omega arith) (omega arith)) ∙ ap (Option·map (fileAt (s .files))) (start-none (getD (s .pointers) n pastPointer) (startAt s n) (endAt s n) (s .files) k)
 
   -- the place to start with is within the room
-  pub start-place-within : let p = placesOf (s .counts) n d in
-      let z = getD (s .pointers) n pastPointer in
-      startAmong p (z .set) (firstAfter (keyOf (z .key)) p (s .files)) < maxFiles
-  start-place-within = go (ltb (p .lo) (p .hi)) refl
+  pub start-place-within : (d : Bool) → startsAt s n d < maxFiles
+  start-place-within d = go (ltb (places s n d .lo) (places s n d .hi)) refl
     where
-      p : Window
-      p = placesOf (s .counts) n d
-
-      z : Pointer
-      z = getD (s .pointers) n pastPointer
-
-      i : ℕ
-      i = firstAfter (keyOf (z .key)) p (s .files)
-
-      go : (b : Bool) → ltb (p .lo) (p .hi) ≡ b → startAmong p (z .set) i < maxFiles
+      go : (b : Bool) → ltb (places s n d .lo) (places s n d .hi) ≡ b → startsAt s n d < maxFiles
       go true t =
-          let files = q .files in
-          let room = start-places-room .0 in
-          let within = start-among (pointerOf z) (p .lo) (p .hi) (s .files) (startAmong p (z .set) i) (omega arith) (steps-place z p (s .files) (ltb-true (p .lo) (p .hi) t) (omega arith)) in
-          omega (arith, within .1)
-      go false t = rw (among-none p (z .set) i (ltb-false (p .lo) (p .hi) t)) (omega arith)
-
--- the file there is the one that a size pick starts with
-pub start-steps : (s : Store) → StoreShape s → wellStore s ≡ true → (n : ℕ) → n < levelCount → (d : Bool) → let p = placesOf (s .counts) n d in
-    let z = getD (s .pointers) n pastPointer in
-    let j = startAmong p (z .set) (firstAfter (keyOf (z .key)) p (s .files)) in
-    cond (ltb (p .lo) (p .hi)) (startedAt j (getD (s .files) j past)) noStart ≡ startedIn s n d
-unfolding placesOf startedIn startIn fromPlace
-start-steps s q h n l false = refl
-start-steps s q h n l true = go (ltb (startAt s n) (endAt s n)) refl
-  where
-    z : Pointer
-    z = getD (s .pointers) n pastPointer
-
-    p : Window
-    p = record { lo = startAt s n; hi = endAt s n }
-
-    j : ℕ
-    j = startAmong p (z .set) (firstAfter (keyOf (z .key)) p (s .files))
-
-    go : (b : Bool) → ltb (startAt s n) (endAt s n) ≡ b → cond b (startedAt j (getD (s .files) j past)) noStart ≡ fromPlace s (startPlace (pointerOf z) (startAt s n) (endAt s n) (s .files))
-    go true t =
-        let files = q .files in
-        sym (ap (fromPlace s) (steps-place z p (s .files) (ltb-true (startAt s n) (endAt s n) t) (omega (arith, start-places-room s q h n l true .0))))
-    go false t = sym (ap (fromPlace s) (start-none z (startAt s n) (endAt s n) (s .files) (ltb-false (startAt s n) (endAt s n) t)))
+          let below = start-some d (ltb-true (places s n d .lo) (places s n d .hi) t) .below in
+          omega (arith, level-ends s n, files-room s n h)
+      go false t =
+          let z = getD (s .pointers) n pastPointer in
+          let none = among-none (places s n d) (z .set) (firstAfter (keyOf (z .key)) (places s n d) (s .files)) (ltb-false (places s n d .lo) (places s n d .hi) t) in
+          rw none (omega arith)

@@ -11,7 +11,6 @@ use Rattle.records.specs.Record.{blank, vacant, past}
 use Rattle.records.specs.declared.FileRecord.{FileRecord}
 use Rattle.store.specs.declared.Store.{Store}
 use Rattle.store.specs.Store.{wellStore, StoreShape}
-use Rattle.store.specs.StoreLaws as store
 use Rattle.pick_found.specs.CallsLaws.{files-room}
 use Rattle.pick_search.specs.declared.Choice.{Choice}
 use Rattle.pick_search.specs.Choice.{runsOf, placeIn, laidChoice}

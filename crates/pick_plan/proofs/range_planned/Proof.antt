@@ -171,13 +171,12 @@ returns-7 c s h =
     let asked = c .asking .ensures ∙ ap (λ (x : Span). begun (a .level) (a .maximum) x (k .limit-of .result)) (r .between .ensures)
     ∙ ap (begun (a .level) (a .maximum) (spanRecord (between (keyOf (a .start)) (keyOf (a .stop))))) (k .limit-of .ensures) in
     let level : c .asking .result .level ≡ a .level = ap (λ (x : Choice). x .level) (c .asking .ensures) in
-    let ready : Ready s (c .asking .result) 0 5 = rw (c .asking .ensures)
+    let ready : Ready s (c .asking .result) 0 = rw (c .asking .ensures)
     record {
       well = well e s h;
       level = l .if2 .left;
       maximum = maximum-most (a .maximum) (good m);
       order = omega arith;
-      last = omega arith;
       stands = invariant-begun s (a .level) (a .maximum) (k .limit-of .result) (r .between .result);
     } in
     plans-done s (answer s b) Manual (c .asking .result) 0
