@@ -1,5 +1,5 @@
 -- `pick_plan::size_asked` meets its contract: a walk of its MIR, by hand. It reads the counts through the reference, then makes three calls: the level to compact,
--- the file to start with, the plan. The proof uses only the contracts of the three. Assumes nothing.
+-- what to start with, the plan. The proof uses only the contracts of the three. Assumes nothing.
 use mathlib.Core.Path.{_≡_, refl, sym, ap, subst, _∙_}
 use mathlib.Core.Bool.{true}
 use Prim.Native.Nat.{ℕ, _<_, _^_}
@@ -60,7 +60,7 @@ use Rattle.pick_score.proofs.finalize.Symbol.{name as #pick-score·finalize}
 use Rattle.pick_score.proofs.finalize.Met as finalize-thm
 use Rattle.pick_plan.specs.declared.PickPlan.{PickPlan}
 use Rattle.pick_plan.specs.declared.Started.{Started}
-use Rattle.pick_plan.specs.Starts.{startedIn}
+use Rattle.pick_plan.specs.Starts.{Starts}
 use Rattle.pick_plan.specs.Plans.{SizePlanned, Plans}
 use Rattle.pick_search.proofs.Answered.{answered}
 use Rattle.pick_plan.proofs.Walks.{machD, machL}
@@ -94,9 +94,11 @@ machB bs = only (array-vals (uint-vals w64) bs)
 abbrev machC : Scored → Val
 machC = LL.val C.the-type C′.the-laws
 
+-- the arguments
 abbrev Arg : Type 0
 Arg = RefT Store × (List ℕ × (ℕ × Unit {0}))
 
+-- at exit nothing is kept of them
 abbrev stayed : Stays (size-asked.ended .signature .params) (size-asked.ended .kept)
 stayed = (stay-none-ref (0 ∷ []) tt (plain (λ _. S.the-row)) yes, (stay-none (λ _. Bs) yes, (stay-none (λ _. u64) yes, tt)))
 
@@ -147,15 +149,18 @@ module _ {M : Type 1} (𝓤 : URA M) (H : Heap 𝓤) (A : Atoms 𝓤) (at-mem : 
 
 module _ {M : Type 1} (𝓤 : URA M) (H : Heap 𝓤) (A : Atoms 𝓤) (W : Given 𝓤 H A) (at-mem : Memory → SProp 𝓤) (run : Routine → Fun 𝓤) (κ : Lft) (q : Share) (b o : ℕ) (γ : GName) (h : Store) (bs : List ℕ) (m : ℕ)
     (is-bs : Is Bs bs (machB bs ∷ [])) (m-fits : m < 2 ^ 64) (asks : Asks h bs) where
+  -- the arguments, and their machine values
   abbrev x : Arg
   x = (lentAt b o γ h, (bs, (m, tt)))
 
   abbrev at : Vals size-asked.signature (κ, tt)
   at = (vptr b o ∷ [], (machB bs ∷ [], (vint w64 m ∷ [], tt)))
 
+  -- what is to hold at exit
   abbrev Post : Val → SProp 𝓤
   Post = walkOf 𝓤 H A size-asked.ended stayed (size-asked.clauses 𝓤 H A at-mem run) .post (((κ, tt), (q, tt), tt, x, at), tt)
 
+  -- what stands after the last statement gives that
   exits : (r : PickPlan) → Is L.the-row r (machL r ∷ []) → Plans h (answer h m) r → ent 𝓤 (⋆ 𝓤 H A ((‵ (flft κ q) ⊛ ‵ ftrue) ∷ ‵ (Own κ b o γ h) ∷ [])) (Post (machL r))
   exits r is e =
       qed W ((‵ (flft κ q) ⊛ ‵ ftrue) ∷ ‵ (Own κ b o γ h) ∷ []) ∵
@@ -172,6 +177,7 @@ module _ {M : Type 1} (𝓤 : URA M) (H : Heap 𝓤) (A : Atoms 𝓤) (W : Given
       qed W (‵ ftrue ∷ []) ∵ says ! (bounded h bs asks) $ nothing ! $ owned ! Ns (Is Ns) (array-makes 𝓤 H A W usize (uint-makes 𝓤 H A W w64) levelCount) (h .counts) _ is $ fjoin ! $
       owned ! Bs (Is Bs) (array-makes 𝓤 H A W u64 (uint-makes 𝓤 H A W w64) levelCount) bs _ is-bs $ fjoin ! $ move ! (1 ∷ []) $ frame ! $ done !
 
+  -- what it says: the level to compact, by these bytes
   abbrev Scores : Scored → Type 0
   Scores c = c ≡ scoredBy (amountsBy bs (h .counts))
 
@@ -190,14 +196,11 @@ module _ {M : Type 1} (𝓤 : URA M) (H : Heap 𝓤) (A : Atoms 𝓤) (W : Given
       qed W ((‵ (flft κ q) ⊛ ‵ ftrue) ∷ ‵ (Own κ b o γ h) ∷ []) ∵ says ! (asks .0, asks .1, level-small h bs asks c e) $ frame ! $ nothing ! $ owned ! bool (Is bool) (bool-makes 𝓤 H A W) (c .due) _ refl $ fjoin ! $
       owned ! usize (Is usize) (uint-makes 𝓤 H A W w64) (c .level) _ (LL.owed C.the-type C′.the-laws c _ is .0) $ fjoin ! $ move ! (1 ∷ 0 ∷ []) $ fjoin ! $ done !
 
-  abbrev Starts : Scored → Started → Type 0
-  Starts c z = z ≡ startedIn h (c .level) (c .due)
-
   abbrev Said-start : Scored → Started → SProp 𝓤
   Said-start c r = ensured 𝓤 H A size-start.ended (size-start.clauses 𝓤 H A at-mem run) (κ, tt) (lentAt b o γ h, (c .level, (c .due, tt))) tt r
 
-  said-start : (c : Scored) (r : Started) → ent 𝓤 (Said-start c r) (fact 𝓤 (Starts c r))
-  said-start c r = exE 𝓤 _ (λ ws. snd∗ 𝓤 (sem 𝓤 H A (lasts size-start.ended (κ, tt) (lentAt b o γ h, (c .level, (c .due, tt))) ws)) (fact 𝓤 (Starts c r)))
+  said-start : (c : Scored) (r : Started) → ent 𝓤 (Said-start c r) (fact 𝓤 (Starts h (c .level) (c .due) r))
+  said-start c r = exE 𝓤 _ (λ ws. snd∗ 𝓤 (sem 𝓤 H A (lasts size-start.ended (κ, tt) (lentAt b o γ h, (c .level, (c .due, tt))) ws)) (fact 𝓤 (Starts h (c .level) (c .due) r)))
 
   -- ---- of `size_planned`
   abbrev to-planned : Scored → Started → Planned 𝓤 H A at-mem run .Ghost
@@ -215,8 +218,8 @@ module _ {M : Type 1} (𝓤 : URA M) (H : Heap 𝓤) (A : Atoms 𝓤) (W : Given
   said-planned c z r = exE 𝓤 _ (λ ws. snd∗ 𝓤 (sem 𝓤 H A (lasts size-planned.ended tt (c, (z, (m, tt))) ws)) (fact 𝓤 (SizePlanned c z m r)))
 
   module _ (C₀ : Calls 𝓤 H) (Λ : Loops 𝓤 H) (fm : FmC 𝓤 H (W .laws) C₀) (known-finalize : Triple 𝓤 (C₀ #pick-score·finalize) (Finalize 𝓤 H A at-mem run)) (known-start : Triple 𝓤 (C₀ #pick-plan·size-start) (SizeStart 𝓤 H A at-mem run)) (known-planned : Triple 𝓤 (C₀ #pick-plan·size-planned) (Planned 𝓤 H A at-mem run)) where
-    -- from the first statement on
     module _ (l₀ l₁ l₂ l₃ l₄ l₅ l₆ : ℕ) where
+      -- the locals: their types and places
       abbrev En : Env 𝓤 H
       En = (L′.mir, l₀) ∷ (lent, l₁) ∷ (words, l₂) ∷ (word, l₃) ∷ (C′.mir, l₄) ∷ (D′.mir, l₅) ∷ (words, l₆) ∷ []
 
@@ -238,7 +241,7 @@ module _ {M : Type 1} (𝓤 : URA M) (H : Heap 𝓤) (A : Atoms 𝓤) (W : Given
           use2 W (raw (SizeStart 𝓤 H A at-mem run .pre (to-start c))) (goes-start c is₁ e₁) $
           calls-at ! fm (SizeStart 𝓤 H A at-mem run) known-start (to-start c) (and-then ! (load ! (from ! (stop !)) (look ! 12 refl)) (and-then ! (load ! (from ! (fld ! refl (stop !))) (look-in ! 6 (sub ! 0 refl (whole !)))) (and-then ! (load ! (from ! (fld ! refl (stop !))) (look-in ! 6 (sub ! 4 refl (whole !)))) (no-more !)))) (λ v₂.
           use1 W (later (some (λ (r : Started). ((‵ (flft κ q) ⊛ ‵ ftrue) ⊛ ‵ (D.the-row .own r (v₂ ∷ []))) ⊛ raw (Said-start c r)))) (id⊢ 𝓤 _) $
-          answered ! (‵ (flft κ q) ⊛ ‵ ftrue) D.the-row machD (λ r w is. ap only (LL.tells D.the-type D′.the-laws r _ is)) v₂ (Said-start c) (Starts c) (said-start c) (λ z e₂ is₂.
+          answered ! (‵ (flft κ q) ⊛ ‵ ftrue) D.the-row machD (λ r w is. ap only (LL.tells D.the-type D′.the-laws r _ is)) v₂ (Said-start c) (Starts h (c .level) (c .due)) (said-start c) (λ z e₂ is₂.
           land ! (from ! (stop !)) (init ! 4 refl (LL.lawful D.the-type D′.the-laws 𝓤 H A W .typed z _ is₂ .0)) $
           nothing ! $ use1 W (raw (Planned 𝓤 H A at-mem run .pre (to-planned c z))) (goes-planned c z is₁ is₂) $
           calls-at ! fm (Planned 𝓤 H A at-mem run) known-planned (to-planned c z) (and-then ! (load ! (from ! (stop !)) (look ! 7 refl)) (and-then ! (load ! (from ! (stop !)) (look ! 5 refl)) (and-then ! (load ! (from ! (stop !)) (look ! 9 refl)) (no-more !)))) (λ v₃.
@@ -249,6 +252,7 @@ module _ {M : Type 1} (𝓤 : URA M) (H : Heap 𝓤) (A : Atoms 𝓤) (W : Given
           move ! (14 ∷ 15 ∷ []) $ free1 ! $ move ! (12 ∷ 13 ∷ []) $ free1 ! $ move ! (10 ∷ 11 ∷ []) $ free1 ! $ move ! (8 ∷ 9 ∷ []) $ free1 ! $ move ! (6 ∷ 7 ∷ []) $ free1 ! $ move ! (4 ∷ 5 ∷ []) $ free1 ! $ move ! (2 ∷ 3 ∷ []) $ free1 ! $ free0 ! $
           by ! (exits r is₃ (e₃ h (asks .0) (asks .1) (scored-is h bs asks c e₁) e₂))))))))
 
+      -- from the first statement on
       reads : Sq W ((‵ (flft κ q) ⊛ ‵ ftrue) ∷ ‵ (Own κ b o γ h) ∷ ‵ (froom words l₆ 0) ∷ Others) (runs C₀ Λ En reading (atRet En Post))
       reads =
           opened ! tt h b o (λ q′ is.
@@ -256,6 +260,7 @@ module _ {M : Type 1} (𝓤 : URA M) (H : Heap 𝓤) (A : Atoms 𝓤) (W : Given
           assigns ! (of-opd ! (load ! (from ! (hop ! (look ! 14 refl) (fld ! refl (stop !)))) (look-in ! 0 (sub ! 1 refl (whole !))))) (from ! (stop !)) (init ! 4 refl (LL.lawfuls 𝓤 H A W (S.the-type .parts) S′.the-laws .1 .0 .typed (h .counts) _ (counts-are h is) .0)) $
           shut ! tt q′ h b o $ follows (counts-are h is))
 
+    -- from the entry on
     walk : ent 𝓤 (onEntry 𝓤 H A size-asked.signature (κ, tt) (q, tt) x at) (WpFn 𝓤 H C₀ Λ code.function (vptr b o ∷ machB bs ∷ vint w64 m ∷ []) Post)
     walk =
         qed W ((‵ (flft κ q) ⊛ ‵ ftrue) ∷ ‵ (owns (ShrRef (named 0) κ S.the-row ∷ Bs ∷ u64 ∷ []) x at) ∷ []) ∵ enter ! C₀ Λ code.function (vptr b o ∷ machB bs ∷ vint w64 m ∷ []) _ $
@@ -266,12 +271,14 @@ module _ {M : Type 1} (𝓤 : URA M) (H : Heap 𝓤) (A : Atoms 𝓤) (W : Given
 
 module _ {M : Type 1} (𝓤 : URA M) (H : Heap 𝓤) (A : Atoms 𝓤) (W : Given 𝓤 H A) (at-mem : Memory → SProp 𝓤) (run : Routine → Fun 𝓤) (𝓣 : Tables 𝓤 H)
     (known-finalize : Triple 𝓤 (𝓣 .C #pick-score·finalize) (Finalize 𝓤 H A at-mem run)) (known-start : Triple 𝓤 (𝓣 .C #pick-plan·size-start) (SizeStart 𝓤 H A at-mem run)) (known-planned : Triple 𝓤 (𝓣 .C #pick-plan·size-planned) (Planned 𝓤 H A at-mem run)) where
+  -- the walk at all arguments
   size-asked-walks : Walks 𝓤 H A size-asked.ended stayed (WpFn 𝓤 H (𝓣 .C) (𝓣 .Λ) code.function) (size-asked.clauses 𝓤 H A at-mem run)
   size-asked-walks = walked 𝓤 H A size-asked.ended stayed (size-asked.clauses 𝓤 H A at-mem run) (WpFn 𝓤 H (𝓣 .C) (𝓣 .Λ) code.function)
       (λ κs. (ptr-vals, (array-vals (uint-vals w64), (uint-vals w64, tt)))) (λ κs. (shr-tells (named 0) (κs .0) S.the-row, (array-tells u64 (uint-vals w64) (uint-tells w64) levelCount, (uint-tells w64, tt))))
       (λ κs qs bounds a g are. needs 𝓤 (Asks (a .0 .now) (a .1 .0)) _ (λ asks.
       walk 𝓤 H A W at-mem run (κs .0) (qs .0) (a .0 .ptr .0) (a .0 .ptr .1) (a .0 .name) (a .0 .now) (a .1 .0) (a .1 .1 .0) (are .1 .0) (are .1 .1 .0 .1) asks (𝓣 .C) (𝓣 .Λ) (fmOf 𝓤 H (W .laws) 𝓣) known-finalize known-start known-planned))
 
+  -- taken to the contract
   size-asked-meets : Meets 𝓤 H A size-asked.signature (WpFn 𝓤 H (𝓣 .C) (𝓣 .Λ) code.function) (size-asked.spec 𝓤 H A at-mem run)
   size-asked-meets =
       walk-meets 𝓤 H A size-asked.ended stayed W (goes-none-ref 𝓤 H A W 1 (0 ∷ []) tt (plain (λ _. S.the-row)) yes, (goes-none 𝓤 H A W 1 (λ _. Bs) yes (λ κs x f. refl), (goes-none 𝓤 H A W 1 (λ _. u64) yes (λ κs x f. refl), tt)))
