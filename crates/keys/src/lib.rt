@@ -264,6 +264,15 @@ pub fn user_is_after(u: UserKey, k: Key) -> bool
     }
 }
 
+// Whether the user key of an internal key is strictly before that of another. Internal.
+pub fn user_precedes(a: Key, b: Key) -> bool
+    ensures { λ r. ⌜ r ≡ model.userBefore (model.user (keyOf a)) (model.user (keyOf b)) ⌝ }
+{
+    let m = user_len(a);
+    let n = user_len(b);
+    octets::is_less(octets::order_of(&a.bytes, m, &b.bytes, n))
+}
+
 // Whether a user key is strictly before another. Internal.
 pub fn user_key_is_before(u: UserKey, v: UserKey) -> bool
     ensures { λ r. ⌜ r ≡ model.userBefore (userOf u) (userOf v) ⌝ }

@@ -112,8 +112,7 @@ pub fn follows(high: Key, f: FileRecord) -> bool
     ensures { λ r. ⌜ r ≡ completion.follows (keyOf high) (fileOf f) ⌝ }
 {
     let low = f.smallest;
-    let user = keys::user_key(high);
-    if keys::user_is_before(user, low) {
+    if keys::user_precedes(high, low) {
         return false;
     }
     keys::is_before(high, low)

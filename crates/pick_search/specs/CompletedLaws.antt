@@ -19,8 +19,8 @@ use Rattle.pick_search.specs.declared.Question.{Question}
 use Rattle.pick_search.specs.Search.{takesAfter, Takes}
 
 -- ---- files taken one after another
--- a rule that takes no file after xs
-take-none : (p : List File → File → Bool) (xs fs : List File) → ((f : File) → p xs f ≡ false) → takeOn p xs fs ≡ []
+-- a rule that takes no file after xs takes none of a list
+pub take-none : (p : List File → File → Bool) (xs fs : List File) → ((f : File) → p xs f ≡ false) → takeOn p xs fs ≡ []
 unfolding takeOn
 take-none p xs [] h = refl
 take-none p xs (f ∷ fs) h = rw (h f)

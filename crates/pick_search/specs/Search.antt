@@ -27,14 +27,18 @@ use Rattle.pick_search.specs.declared.Sweep.{Sweep}
 use Rattle.pick_search.specs.Choice.{questionOf, filledWith, laidChoice, firsts, SearchInvariant, Widest, Finds}
 
 -- ---- file by file
--- a search that goes on from the files found, while a place is left
-unfoldable pub sweepFrom : FoundRun → ℕ → Sweep
-sweepFrom a to = record { found = a; goes = ltb (a .from + a .count) to }
+-- a rule may take files after those found: by the range always, by the edge only if the question completes and there are files
+unfoldable pub mayTake : Question → Bool → FoundRun → Bool
+mayTake q edge a = cond edge (q .edges && not (eqb (a .count) 0)) true
+
+-- a search that goes on from the files found: if the rule may take files, and while a place is left
+unfoldable pub sweepFrom : Question → Bool → FoundRun → Sweep
+sweepFrom q edge a = record { found = a; goes = mayTake q edge a && ltb (a .from + a .count) (q .to) }
 
 -- the next file is taken by its record. By the range: the bytes so far are not above the limit, and it does not begin after the range.
--- By the edge: the question completes, and the file's smallest key follows the largest key of the files found with the same user key
+-- By the edge: it may take files, and the file's smallest key follows the largest key of the files found with the same user key
 unfoldable pub takesNext : Question → Bool → FoundRun → FileRecord → Bool
-takesNext q edge a f = cond edge (q .edges && not (eqb (a .count) 0) && follows (keyOf (a .ends .high)) (fileOf f))
+takesNext q edge a f = cond edge (mayTake q edge a && follows (keyOf (a .ends .high)) (fileOf f))
     (not (ltb (q .most) (a .bytes)) && not (userBefore (userOf (q .span .stop)) (user (keyOf (f .smallest)))))
 
 -- the files found with the next file added

@@ -1,7 +1,7 @@
 -- Laws of one search over a lent store: by halves the invariant is kept and fewer places are left, and the same when files are taken one by one. Assumes nothing.
 use Prim.Native.Nat.{ℕ, _+_, _-_, _^_, _≤_, _<_}
 use mathlib.Core.Path.{_≡_, refl, sym, ap, subst, _∙_}
-use mathlib.Core.Bool.{Bool, true, false, cond}
+use mathlib.Core.Bool.{Bool, true, false, not, _&&_, cond}
 use mathlib.Core.List.{List, [], _∷_, _++_, append-assoc, append-nil}
 use native.Mathlib.Omega.{arith}
 use lib.Dec.{eqb, ltb}
@@ -27,7 +27,8 @@ use Rattle.bisect.specs.Window.{midOf, halfOf}
 use Rattle.bisect.specs.WindowLaws.{mid-least, mid-below}
 use Rattle.pick_search.specs.declared.Question.{Question}
 use Rattle.pick_search.specs.declared.Sweep.{Sweep}
-use Rattle.pick_search.specs.Search.{sweepFrom, takesNext, takesAfter, spanning, Grows, Sweeps, Takable, Takes, Findable, Overlaps}
+use Rattle.pick_search.specs.CompletedLaws.{take-none}
+use Rattle.pick_search.specs.Search.{mayTake, sweepFrom, takesNext, takesAfter, spanning, Grows, Sweeps, Takable, Takes, Findable, Overlaps}
 
 -- ---- by halves
 module _ (files : List FileRecord) (q : Question) (s : Contiguous files (q .from) (q .to) (spanOf (q .span))) (size : length files ≡ maxFiles) where
@@ -80,9 +81,9 @@ module _ {A : Type 0} (p : List A → A → Bool) (xs : List A) (y : A) (ys : Li
   take-here e = rw e (append-assoc xs (y ∷ []) (takeOn p (xs ++ (y ∷ [])) ys))
 
   -- it is not taken, and none after it
-  take-none : p xs y ≡ false → takeOn p xs (y ∷ ys) ≡ []
+  take-ends : p xs y ≡ false → takeOn p xs (y ∷ ys) ≡ []
   unfolding takeOn
-  take-none e = rw e
+  take-ends e = rw e
 
 -- ---- the rule by a record is the rule by files
 -- a list has no items exactly if their number is 0
@@ -93,9 +94,15 @@ empty-count (x ∷ xs) n e = ne-eqb n 0 (λ z. absurd (omega (arith, e, z)))
 
 -- the next file is taken by its record exactly if it is taken after the files found
 rule-is : (q : Question) (edge : Bool) (a : FoundRun) (xs : List File) (f : FileRecord) → length xs ≡ a .count → Summed xs (a .ends) (a .bytes) → takesNext q edge a f ≡ takesAfter q edge xs (fileOf f)
-unfolding takesNext takesAfter fileOf
+unfolding mayTake takesNext takesAfter fileOf
 rule-is q true a xs f n s = rw (empty-count xs (a .count) n, s .high)
 rule-is q false a xs f n s = rw (s .bytes-are)
+
+-- a rule that may take no file after some takes no file
+may-not : (q : Question) (edge : Bool) (a : FoundRun) (xs : List File) → length xs ≡ a .count → mayTake q edge a ≡ false → (f : File) → takesAfter q edge xs f ≡ false
+unfolding mayTake takesAfter
+may-not q true a xs n e f = let z : (q .edges && not (isEmpty xs)) ≡ false = rw (← empty-count xs (a .count) n) e in rw z
+may-not q false a xs n e f = clash refl e
 
 -- ---- the files found with the next file
 module _ (files : List FileRecord) (size : length files ≡ maxFiles) (to : ℕ) (a : FoundRun) (h : Takable files to a) where
@@ -157,10 +164,18 @@ module _ (files : List FileRecord) (q : Question) (edge : Bool) (a : FoundRun) (
     ended = λ x. rw (run-ended (b .from + b .count) (q .to) files (ltb-false (b .from + b .count) (q .to) (sym e ∙ x)));
   }
 
+  -- a rule that may take no file takes none
+  none-more : Takable files (q .to) a → mayTake q edge a ≡ false → moreOf files q edge a ≡ []
+  none-more h e = take-none (takesAfter q edge) (filesOf files a) (run (a .from + a .count) (q .to) files) (may-not q edge a (filesOf files a) (count-is files size (q .to) a h) e)
+
   -- at first only the files of a are found
-  pub sweeping-start : Takable files (q .to) a → (w : Sweep) → w ≡ sweepFrom a (q .to) → Sweeping files q edge a w
+  pub sweeping-start : Takable files (q .to) a → (w : Sweep) → w ≡ sweepFrom q edge a → Sweeping files q edge a w
   unfolding sweepFrom
-  sweeping-start h w e = subst (Sweeping files q edge a) (sym e) (stands a (ltb (a .from + a .count) (q .to)) h refl refl refl)
+  sweeping-start h w e = subst (Sweeping files q edge a) (sym e) (go (mayTake q edge a) refl)
+    where
+      go : (t : Bool) → mayTake q edge a ≡ t → Sweeping files q edge a (record { found = a; goes = t && ltb (a .from + a .count) (q .to) })
+      go true m = stands a (ltb (a .from + a .count) (q .to)) h refl refl refl
+      go false m = record { found = h; starts = refl; below = λ x. clash x refl; rest = refl; ended = λ x. none-more h m }
 
   -- the bytes with the next file's fit 64 bits
   pub sweeping-small : (w : Sweep) → Sweeping files q edge a w → w .goes ≡ true → (f : FileRecord) → f ≡ getD files (nextOf w) past → w .found .bytes + f .size < 2 ^ 64
@@ -195,7 +210,7 @@ module _ (files : List FileRecord) (q : Question) (edge : Bool) (a : FoundRun) (
               starts = g .starts;
               below = λ z. clash z refl;
               rest = g .rest;
-              ended = λ z. ap (takeOn (takesAfter q edge) (filesOf files (w .found))) first ∙ take-none (takesAfter q edge) (filesOf files (w .found)) (fileOf f) (run (nextOf w + 1) (q .to) files) (sym rule ∙ x);
+              ended = λ z. ap (takeOn (takesAfter q edge) (filesOf files (w .found))) first ∙ take-ends (takesAfter q edge) (filesOf files (w .found)) (fileOf f) (run (nextOf w + 1) (q .to) files) (sym rule ∙ x);
             })
 
     -- the measure falls

@@ -14,7 +14,7 @@ ghost use Rattle.records.specs.Run.{run};
 ghost use Rattle.store.specs.Store.{wellStore, StoreShape};
 ghost use Rattle.pick_range.specs.Ranges.{spanOf};
 ghost use Rattle.pick_found.specs.FoundRun.{Contiguous, Passed};
-ghost use Rattle.pick_search.specs.Search.{sweepFrom, takesNext, Sweeps, spanning, Takable, Takes, Findable, Overlaps, Weighed, Searched, Ready, Chooses, Lists, Placed};
+ghost use Rattle.pick_search.specs.Search.{mayTake, sweepFrom, takesNext, Sweeps, spanning, Takable, Takes, Findable, Overlaps, Weighed, Searched, Ready, Chooses, Lists, Placed};
 use bisect::Window;
 use keys::UserKey;
 use pick_found::FoundRun;
@@ -276,15 +276,32 @@ fn passed(s: &Store, q: Question) -> usize
     p.lo
 }
 
-// A search that goes on from the files found: while a place is left. Requires: these are within the room.
-fn sweeping(a: FoundRun, to: usize) -> Sweep
-    requires { ⌜ a .from + a .count ≤ maxFiles ⌝ }
-    ensures { λ r. ⌜ r ≡ sweepFrom a to ⌝ }
+// Whether a rule may take files after those found: by the range always, by the edge only if the question completes and there are files.
+fn may_take(a: FoundRun, q: Question, edge: bool) -> bool
+    ensures { λ r. ⌜ r ≡ mayTake q edge a ⌝ }
 {
-    let next = a.from + a.count;
+    if !edge {
+        return true;
+    }
+    if !q.edges {
+        return false;
+    }
+    a.count != 0
+}
+
+// A search that goes on from the files found: if the rule may take files, and while a place is left. Requires: the files found are within the room.
+fn sweeping(a: FoundRun, q: Question, edge: bool) -> Sweep
+    requires { ⌜ a .from + a .count ≤ maxFiles ⌝ }
+    ensures { λ r. ⌜ r ≡ sweepFrom q edge a ⌝ }
+{
+    let mut goes = may_take(a, q, edge);
+    if goes {
+        let next = a.from + a.count;
+        goes = next < q.to;
+    }
     Sweep {
         found: a,
-        goes: next < to,
+        goes: goes,
     }
 }
 
@@ -304,10 +321,7 @@ fn takes_next(a: FoundRun, q: Question, edge: bool, f: FileRecord) -> bool
         let span = q.span;
         return pick_found::is_taken(a.bytes, q.most, span.stop, f);
     }
-    if !q.edges {
-        return false;
-    }
-    if a.count == 0 {
+    if !may_take(a, q, edge) {
         return false;
     }
     let ends = a.ends;
@@ -340,7 +354,7 @@ pub fn taken(s: &Store, q: Question, a: FoundRun, edge: bool) -> FoundRun
     requires { ⌜ StoreShape (now s) × Takable (now s .files) (q .to) a ⌝ }
     ensures { λ r. ⌜ Takes (now (s .entry) .files) q edge a r ⌝ }
 {
-    let mut w = sweeping(a, q.to);
+    let mut w = sweeping(a, q, edge);
     while w.goes {
         let f = store::file_at(s, next_place(w));
         w = swept(w, q, edge, f);

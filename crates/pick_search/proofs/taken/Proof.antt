@@ -147,9 +147,6 @@ module _ {M : Type 1} (𝓤 : URA M) (H : Heap 𝓤) (A : Atoms 𝓤) (W : Given
   is-found : (w : Part) → Is F.the-row (w .0 .found) (machF (w .0 .found) ∷ [])
   is-found w = LL.owed Y.the-type Y′.the-laws (w .0) _ (w .1) .0
 
-  to-fits : q .to < 2 ^ 64
-  to-fits = let room = takable .room in omega arith
-
   -- the files found are within the room
   found-fits : a .from + a .count ≤ maxFiles
   found-fits =
@@ -159,15 +156,16 @@ module _ {M : Type 1} (𝓤 : URA M) (H : Heap 𝓤) (A : Atoms 𝓤) (W : Given
 
   -- the call of `sweeping`
   abbrev to-starts : Starts 𝓤 H A at-mem run .Ghost
-  to-starts = ((tt, tt, tt, (a, (q .to, tt)), (machF a ∷ [], (vint w64 (q .to) ∷ [], tt))), tt)
+  to-starts = ((tt, tt, tt, (a, (q, (edge, tt))), (machF a ∷ [], (machQ q ∷ [], (vbool edge ∷ [], tt)))), tt)
 
   goes-starts : ent 𝓤 (sem 𝓤 H A ftrue) (Starts 𝓤 H A at-mem run .pre to-starts)
   goes-starts =
-      qed W (‵ ftrue ∷ []) ∵ says ! found-fits $ nothing ! $ owned ! usize (Is usize) (uint-makes 𝓤 H A W w64) (q .to) _ (refl, to-fits) $ fjoin ! $
+      qed W (‵ ftrue ∷ []) ∵ says ! found-fits $ nothing ! $ owned ! bool (Is bool) (bool-makes 𝓤 H A W) edge _ refl $ fjoin ! $
+      owned ! Q.the-row (Is Q.the-row) (LL.makes Q.the-type Q′.the-plain 𝓤 H A) q _ is-q $ fjoin ! $
       owned ! F.the-row (Is F.the-row) (LL.makes F.the-type F′.the-plain 𝓤 H A) a _ is-a $ fjoin ! $ move ! (1 ∷ []) $ frame ! $ done !
 
-  said-starts : (w : Sweep) → ent 𝓤 (ensured 𝓤 H A sweeping.ended (sweeping.clauses 𝓤 H A at-mem run) tt (a, (q .to, tt)) tt w) (fact 𝓤 (w ≡ sweepFrom a (q .to)))
-  said-starts w = exE 𝓤 _ (λ ws. snd∗ 𝓤 (sem 𝓤 H A (lasts sweeping.ended tt (a, (q .to, tt)) ws)) (fact 𝓤 (w ≡ sweepFrom a (q .to))))
+  said-starts : (w : Sweep) → ent 𝓤 (ensured 𝓤 H A sweeping.ended (sweeping.clauses 𝓤 H A at-mem run) tt (a, (q, (edge, tt))) tt w) (fact 𝓤 (w ≡ sweepFrom q edge a))
+  said-starts w = exE 𝓤 _ (λ ws. snd∗ 𝓤 (sem 𝓤 H A (lasts sweeping.ended tt (a, (q, (edge, tt))) ws)) (fact 𝓤 (w ≡ sweepFrom q edge a)))
 
   -- what is had of a search and of a record at their own machine values
   search-is : (w : Sweep) (v : Val) → Is Y.the-row w (v ∷ []) → Is Y.the-row w (machY w ∷ [])
@@ -176,7 +174,7 @@ module _ {M : Type 1} (𝓤 : URA M) (H : Heap 𝓤) (A : Atoms 𝓤) (W : Given
   here-is : (f : FileRecord) (v : Val) → Is T.the-row f (v ∷ []) → Is T.the-row f (machR f ∷ [])
   here-is f v is = LL.owes T.the-type T′.the-laws f (LL.owed T.the-type T′.the-laws f _ is)
 
-  abbrev starts : (w : Sweep) (v : Val) → Is Y.the-row w (v ∷ []) → w ≡ sweepFrom a (q .to) → Part
+  abbrev starts : (w : Sweep) (v : Val) → Is Y.the-row w (v ∷ []) → w ≡ sweepFrom q edge a → Part
   starts w v is e = (w, search-is w v is, sweeping-start (h .files) q edge a (shape .files) takable w e)
 
   -- the call of `next_place`
@@ -291,9 +289,9 @@ module _ {M : Type 1} (𝓤 : URA M) (H : Heap 𝓤) (A : Atoms 𝓤) (W : Given
         pass1 ! (init ! 8 refl (tt, tt)) $ pass0 ! $
         nothing ! $ use1 W (raw (Starts 𝓤 H A at-mem run .pre to-starts)) goes-starts $
         -- [what `sweeping` asks; _8; …; _7; …; _6; …; _5; …; _4; …; _3; …; _2; …; _1; …; room for _0; …; the token; what is owned]
-        calls-at ! (fmOf 𝓤 H (W .laws) 𝓣) (Starts 𝓤 H A at-mem run) known-starts to-starts (and-then ! (load ! (from ! (stop !)) (look ! 11 refl)) (and-then ! (load ! (from ! (fld ! refl (stop !))) (look-in ! 13 (sub ! 1 refl (whole !)))) (no-more !))) (λ v.
-        use1 W (later (some (λ (w : Sweep). (‵ ftrue ⊛ ‵ (Y.the-row .own w (v ∷ []))) ⊛ raw (ensured 𝓤 H A sweeping.ended (sweeping.clauses 𝓤 H A at-mem run) tt (a, (q .to, tt)) tt w)))) (id⊢ 𝓤 _) $ await ! tt $ pick ! (λ w.
-        split ! $ move ! (1 ∷ []) $ use1 W (raw (fact 𝓤 (w ≡ sweepFrom a (q .to)))) (said-starts w) $ heard ! (w ≡ sweepFrom a (q .to)) (λ e. split ! $ drop ! $ peeks ! Y.the-row (Is Y.the-row) (shows 𝓤 H A Y.the-row) w (v ∷ []) (λ is.
+        calls-at ! (fmOf 𝓤 H (W .laws) 𝓣) (Starts 𝓤 H A at-mem run) known-starts to-starts (and-then ! (load ! (from ! (stop !)) (look ! 11 refl)) (and-then ! (load ! (from ! (stop !)) (look ! 13 refl)) (and-then ! (load ! (from ! (stop !)) (look ! 9 refl)) (no-more !)))) (λ v.
+        use1 W (later (some (λ (w : Sweep). (‵ ftrue ⊛ ‵ (Y.the-row .own w (v ∷ []))) ⊛ raw (ensured 𝓤 H A sweeping.ended (sweeping.clauses 𝓤 H A at-mem run) tt (a, (q, (edge, tt))) tt w)))) (id⊢ 𝓤 _) $ await ! tt $ pick ! (λ w.
+        split ! $ move ! (1 ∷ []) $ use1 W (raw (fact 𝓤 (w ≡ sweepFrom q edge a))) (said-starts w) $ heard ! (w ≡ sweepFrom q edge a) (λ e. split ! $ drop ! $ peeks ! Y.the-row (Is Y.the-row) (shows 𝓤 H A Y.the-row) w (v ∷ []) (λ is.
         land ! (from ! (stop !)) (init ! 7 refl (LL.lawful Y.the-type Y′.the-laws 𝓤 H A W .typed w _ is .0)) $ rewrite ! 7 (λ (y : Val). ‵ (fat fullShare Y′.mir l₅ 0 y)) (ap only (LL.tells Y.the-type Y′.the-laws w _ is)) refl $ drop ! $
         move ! (19 ∷ []) $ fsplit ! $ keep ! (0 ∷ 20 ∷ 2 ∷ 3 ∷ 4 ∷ 5 ∷ 6 ∷ 7 ∷ 8 ∷ 9 ∷ 10 ∷ 11 ∷ 12 ∷ 13 ∷ 14 ∷ 15 ∷ 16 ∷ 17 ∷ 18 ∷ 19 ∷ []) $
         looped l₀ l₁ l₂ l₃ l₄ l₅ l₆ l₇ l₈ (starts w v is e))))))))))))))

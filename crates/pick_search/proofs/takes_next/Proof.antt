@@ -1,5 +1,6 @@
 -- `pick_search::takes_next` meets its contract. Assumes nothing.
-use borrow.Author.Tests.{not-true, not-false, ne-eqb}
+use mathlib.Core.Path.{sym, _∙_}
+use borrow.Author.Tests.{not-true, not-false}
 use borrow.Author.Needs.{needs}
 use Rattle.pick_search.specs.Search.{takesNext}
 use Rattle.pick_search.proofs.takes_next.Statement.{statement}
@@ -14,32 +15,26 @@ returns c =
     let i = c .before .before in
     rw (not-true (i .before .args .edge) (i .if1 .taken)) (c .is-taken .ensures)
 
+may-take-requires : tie.Need-may-take-requires
+may-take-requires c κs = search needs
+
 returns-2 : tie.Need-returns-2
 unfolding takesNext
 returns-2 c =
-    let i = c .before .before in
-    let a = i .before .args in
-    rw (not-false (a .edge) (i .if1 .left), not-true (a .q .edges) (c .if2 .taken))
+    let m = c .before in
+    let i = m .before in
+    rw (sym (m .may-take .ensures) ∙ not-true (m .may-take .result) (c .if2 .taken), not-false (i .before .args .edge) (i .if1 .left))
+
+follows-requires : tie.Need-follows-requires
+follows-requires c κs = search needs
 
 returns-3 : tie.Need-returns-3
 unfolding takesNext
 returns-3 c =
     let j = c .before .before in
-    let i = j .before .before in
-    let a = i .before .args in
-    rw (not-false (a .edge) (i .if1 .left), not-false (a .q .edges) (j .if2 .left), c .if3 .taken)
-
-follows-requires : tie.Need-follows-requires
-follows-requires c κs = search needs
-
-returns-4 : tie.Need-returns-4
-unfolding takesNext
-returns-4 c =
-    let k = c .before .before in
-    let j = k .before .before in
-    let i = j .before .before in
-    let a = i .before .args in
-    rw (not-false (a .edge) (i .if1 .left), not-false (a .q .edges) (j .if2 .left), ne-eqb (a .a .count) 0 (k .if3 .left)) (c .follows .ensures)
+    let m = j .before in
+    let i = m .before in
+    rw (sym (m .may-take .ensures) ∙ not-false (m .may-take .result) (j .if2 .left), not-false (i .before .args .edge) (i .if1 .left)) (c .follows .ensures)
 
 pub takes-next-spec : {M : Type 1} → statement M
-takes-next-spec = tie.close (tie.spec is-taken-requires returns returns-2 returns-3 follows-requires returns-4)
+takes-next-spec = tie.close (tie.spec is-taken-requires returns may-take-requires returns-2 follows-requires returns-3)
