@@ -8,18 +8,17 @@ use Rattle.lemmas.specs.ListLaws.{keep-in, join-in, neither, neither-left, neit
 use Rattle.model.specs.Key.{Key, user, userBefore, before}
 use Rattle.model.specs.KeyLaws.{userBefore-order, before-user}
 use Rattle.model.specs.Answer.{gives}
-use Rattle.model.specs.File.{Profile, File, State, level, pointer, setPointer}
+use Rattle.model.specs.File.{Profile, File, State, level, setPointer}
 use Rattle.model.specs.Edit.{Deletion}
-use Rattle.model.specs.Score.{score, levelToCompact, reported}
-use Rattle.model.specs.Range.{Range, between, overlaps, widen, overlapping, highKey, rangeOf}
+use Rattle.model.specs.Range.{Range, overlaps, widen, overlapping, highKey, rangeOf}
 use Rattle.model.specs.Completion.{inputs}
-use Rattle.model.specs.Pick.{sizeInputs, manualInputs, Cause, bySize, manual, Picked, Pick, grandOf, complete, sizePick, manualPick, inputDeletions}
+use Rattle.model.specs.Pick.{Cause, Picked, Pick, grandOf, complete, sizePick, manualPick, inputDeletions}
 use Rattle.model.specs.Question.{holds}
 use Rattle.model.specs.RangeLaws.{overlaps-says, inside-says, widen-least}
-use Rattle.model.specs.Formed.{WF, formed-says, goodFile-order}
+use Rattle.model.specs.Formed.{WF, goodFile-order}
 use Rattle.model.specs.LineLaws.{level-line}
 use Rattle.model.specs.CompletionLaws.{spans-says, NoOlderLeft, completed-none-left}
-use Rattle.model.specs.PickLaws.{size-accepted, range-accepted, pick-after-size, pick-after-range, FormedAt, InLine, level-in-line, inputs-formed, size-formed, manual-formed, grown-formed}
+use Rattle.model.specs.PickLaws.{complete-after, FormedAt, InLine, level-in-line, inputs-formed, grown-formed, Begun, size-begun, range-begun}
 
 -- ---- at level 0, by the widening
 -- no file left has a user key in common with an input
@@ -67,21 +66,9 @@ complete-formed p s m c l first w h =
     let second = inputs (suc l) (level s (suc l)) (rangeOf first) in
     record { first = grown-formed s m l first second (level-in-line p s l w) h; second = inputs-formed (suc l) (level s (suc l)) (rangeOf first) (level-line p s l w) }
 
--- those of a size pick
-pub size-pick-formed : (p : Profile) (s : State) (m : ℕ) (k : Pick) → sizePick p s m ≡ gives k → FormedPick s (k .picked)
-size-pick-formed p s m k h =
-    let a = size-accepted p s m k h in
-    let l = levelToCompact p s in
-    subst (λ (x : Pick). FormedPick s (x .picked)) (a .result)
-    (complete-formed p s m (bySize (reported (score s l))) l (sizeInputs l (pointer s l) (level s l)) (formed-says p s .0 (a .formed)) (size-formed l (pointer s l) (level s l)))
-
--- those of a manual pick
-pub range-pick-formed : (p : Profile) (s : State) (m l : ℕ) (a b : Key) (k : Pick) → manualPick p s m l a b ≡ gives k → FormedPick s (k .picked)
-range-pick-formed p s m l a b k h =
-    let r = range-accepted p s m l a b k h in
-    let w = formed-says p s .0 (r .formed) in
-    subst (λ (x : Pick). FormedPick s (x .picked)) (r .result)
-    (complete-formed p s m manual l (manualInputs m l (level s l) (between a b)) w (manual-formed m l (level s l) (between a b) (level-in-line p s l w)))
+-- so are those of an accepted pick
+pub pick-formed : (p : Profile) (s : State) (m : ℕ) (k : Pick) → Begun p s m k → FormedPick s (k .picked)
+pick-formed p s m k b = subst (λ (x : Pick). FormedPick s (x .picked)) (b .result) (complete-formed p s m (b .cause) (b .from) (b .first) (b .well) (b .formed))
 
 -- ---- the promise
 -- no file left at the compacted level has in its range a key that sorts after a first input's largest with the same user key. None left at the next level has one that
@@ -91,9 +78,9 @@ pub record NoneLeft (s : State) (c : Picked) : Type 0 where
   pub second : NoOlderLeft (level s (suc (c .level))) (c .second)
 
 -- a pick whose lists are so formed keeps it
-pick-none-left : (p : Profile) (s : State) (c : Picked) → WF p s → FormedPick s c → NoneLeft s c
+formed-keeps : (p : Profile) (s : State) (c : Picked) → WF p s → FormedPick s c → NoneLeft s c
 unfolding level
-pick-none-left p s c w h = record {
+formed-keeps p s c w h = record {
   first = formed-none-left (c .level) (level s (c .level)) (c .first) (λ f i. goodFile-order p f (w .good f (join-in (s .files) (c .level) f i))) (level-in-line p s (c .level) w) (h .first);
   second = formed-none-left (suc (c .level)) (level s (suc (c .level))) (c .second) (λ f i. goodFile-order p f (w .good f (join-in (s .files) (suc (c .level)) f i))) (level-line p s (c .level) w) (h .second);
 }
@@ -103,15 +90,21 @@ pointed-none-left : (s : State) (l : ℕ) (x : Key) (c : Picked) → NoneLeft s 
 unfolding setPointer level
 pointed-none-left s l x c h = record { first = h .first; second = h .second }
 
+-- after an accepted pick
+pub pick-none-left : (p : Profile) (s : State) (m : ℕ) (k : Pick) → Begun p s m k → NoneLeft (k .after) (k .picked)
+pick-none-left p s m k b =
+    let after : k .after ≡ setPointer s (k .picked .level) (highKey (k .picked .first)) =
+    subst (λ (x : Pick). x .after ≡ setPointer s (x .picked .level) (highKey (x .picked .first))) (b .result) (complete-after p s m (b .cause) (b .from) (b .first)) in
+    subst (λ (t : State). NoneLeft t (k .picked)) (sym after)
+    (pointed-none-left s (k .picked .level) (highKey (k .picked .first)) (k .picked) (formed-keeps p s (k .picked) (b .well) (pick-formed p s m k b)))
+
 -- after an accepted size pick
 pub size-none-left : (p : Profile) (s : State) (m : ℕ) (k : Pick) → sizePick p s m ≡ gives k → NoneLeft (k .after) (k .picked)
-size-none-left p s m k h = subst (λ (t : State). NoneLeft t (k .picked)) (sym (pick-after-size p s m k h))
-    (pointed-none-left s (k .picked .level) (highKey (k .picked .first)) (k .picked) (pick-none-left p s (k .picked) (formed-says p s .0 (size-accepted p s m k h .formed)) (size-pick-formed p s m k h)))
+size-none-left p s m k h = pick-none-left p s m k (size-begun p s m k h)
 
 -- after an accepted manual pick
 pub range-none-left : (p : Profile) (s : State) (m l : ℕ) (a b : Key) (k : Pick) → manualPick p s m l a b ≡ gives k → NoneLeft (k .after) (k .picked)
-range-none-left p s m l a b k h = subst (λ (t : State). NoneLeft t (k .picked)) (sym (pick-after-range p s m l a b k h))
-    (pointed-none-left s (k .picked .level) (highKey (k .picked .first)) (k .picked) (pick-none-left p s (k .picked) (formed-says p s .0 (range-accepted p s m l a b k h .formed)) (range-pick-formed p s m l a b k h)))
+range-none-left p s m l a b k h = pick-none-left p s m k (range-begun p s m l a b k h)
 
 -- at level 0 more holds: no file left has any user key in common with a first input
 pub level-0-none-shared : (s : State) (c : Picked) → FormedPick s c → c .level ≡ 0 → (f g : File) (u : List ℕ) → In f (level s 0) → (In f (c .first) → ⊥) → In g (c .first) → holds u f ≡ true → holds u g ≡ true → ⊥
@@ -130,17 +123,8 @@ complete-grand : (p : Profile) (s : State) (m : ℕ) (c : Cause) (l : ℕ) (firs
 unfolding complete
 complete-grand p s m c l first = refl
 
--- of a size pick
-pub size-grand : (p : Profile) (s : State) (m : ℕ) (k : Pick) → sizePick p s m ≡ gives k → k .picked .grand ≡ grandOf p s (k .picked .level) (rangeOf (k .picked .first ++ k .picked .second))
+-- those of an accepted pick
+pub pick-grand : (p : Profile) (s : State) (m : ℕ) (k : Pick) → Begun p s m k → k .picked .grand ≡ grandOf p s (k .picked .level) (rangeOf (k .picked .first ++ k .picked .second))
 unfolding complete
-size-grand p s m k h =
-    let l = levelToCompact p s in
-    subst (λ (x : Pick). x .picked .grand ≡ grandOf p s (x .picked .level) (rangeOf (x .picked .first ++ x .picked .second))) (size-accepted p s m k h .result)
-    (complete-grand p s m (bySize (reported (score s l))) l (sizeInputs l (pointer s l) (level s l)))
-
--- of a manual pick
-pub range-grand : (p : Profile) (s : State) (m l : ℕ) (a b : Key) (k : Pick) → manualPick p s m l a b ≡ gives k → k .picked .grand ≡ grandOf p s (k .picked .level) (rangeOf (k .picked .first ++ k .picked .second))
-unfolding complete
-range-grand p s m l a b k h =
-    subst (λ (x : Pick). x .picked .grand ≡ grandOf p s (x .picked .level) (rangeOf (x .picked .first ++ x .picked .second))) (range-accepted p s m l a b k h .result)
-    (complete-grand p s m manual l (manualInputs m l (level s l) (between a b)))
+pick-grand p s m k b =
+    subst (λ (x : Pick). x .picked .grand ≡ grandOf p s (x .picked .level) (rangeOf (x .picked .first ++ x .picked .second))) (b .result) (complete-grand p s m (b .cause) (b .from) (b .first))

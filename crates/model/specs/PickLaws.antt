@@ -267,6 +267,52 @@ size-nonempty p zero o fs g e =
     in-nonempty (keep-in (overlaps (widen fs r)) fs f .1 (s .among, overlaps-mono r (widen fs r) f (widen-least fs r .contains) own))
 size-nonempty p (suc l) o fs g e = let s = start o fs e in completed-empty fs (Option·toList (startFile o fs)) ∙ rw (s .alone) (in-nonempty (here {x = s .file} {xs = []} refl))
 
+-- ---- an accepted pick of either kind
+-- a pick that was made of first inputs: on a well-formed state, with a good maximum, from a list that was formed at its level and has a file
+pub record Begun (p : Profile) (s : State) (m : ℕ) (k : Pick) : Type 0 where
+  pub cause : Cause
+  pub from : ℕ
+  pub first : List File
+  pub result : complete p s m cause from first ≡ k
+  pub well : WF p s
+  pub maximum : badMaximum m ≡ false
+  pub formed : FormedAt from (level s from) first
+  pub some-input : isEmpty first ≡ false
+
+-- an accepted size pick was
+unfoldable pub size-begun : (p : Profile) (s : State) (m : ℕ) (k : Pick) → sizePick p s m ≡ gives k → Begun p s m k
+unfolding level
+size-begun p s m k h =
+    let a = size-accepted p s m k h in
+    let w = formed-says p s .0 (a .formed) in
+    let l = levelToCompact p s in
+    record {
+      cause = bySize (reported (score s l));
+      from = l;
+      first = sizeInputs l (pointer s l) (level s l);
+      result = a .result;
+      well = w;
+      maximum = a .maximum;
+      formed = size-formed l (pointer s l) (level s l);
+      some-input = size-nonempty p l (pointer s l) (level s l) (λ f i. w .good f (join-in (s .files) l f i)) (due-nonempty s l (a .is-due));
+    }
+
+-- an accepted manual pick was
+unfoldable pub range-begun : (p : Profile) (s : State) (m l : ℕ) (a b : Key) (k : Pick) → manualPick p s m l a b ≡ gives k → Begun p s m k
+range-begun p s m l a b k h =
+    let r = range-accepted p s m l a b k h in
+    let w = formed-says p s .0 (r .formed) in
+    record {
+      cause = manual;
+      from = l;
+      first = manualInputs m l (level s l) (between a b);
+      result = r .result;
+      well = w;
+      maximum = r .maximum;
+      formed = manual-formed m l (level s l) (between a b) (level-in-line p s l w);
+      some-input = r .some-input;
+    }
+
 -- ---- growth
 -- after growth there is still a first input
 pub grown-nonempty : (s : State) (m l : ℕ) (first second : List File) → isEmpty first ≡ false → isEmpty (grownFirst s m l first second) ≡ false
@@ -336,26 +382,17 @@ complete-keeps p s m c l first w h e = record {
     go o (inl q) = rw q key-good
     go o (inr i) = w .pointers o i
 
--- an accepted size pick keeps a state well-formed
-pub size-keeps : (p : Profile) (s : State) (m : ℕ) (k : Pick) → sizePick p s m ≡ gives k → WF p (k .after)
-unfolding level
-size-keeps p s m k h =
-    let a = size-accepted p s m k h in
-    let w = formed-says p s .0 (a .formed) in
-    let l = levelToCompact p s in
-    let some-file = due-nonempty s l (a .is-due) in
-    let good : (f : File) → In f (level s l) → goodFile p f ≡ true = λ f i. w .good f (join-in (s .files) l f i) in
-    subst (λ (x : Pick). WF p (x .after)) (a .result)
-    (complete-keeps p s m (bySize (reported (score s l))) l (sizeInputs l (pointer s l) (level s l)) w
-    (size-formed l (pointer s l) (level s l)) (size-nonempty p l (pointer s l) (level s l) good some-file))
+-- an accepted pick keeps a state well-formed
+pub pick-keeps : (p : Profile) (s : State) (m : ℕ) (k : Pick) → Begun p s m k → WF p (k .after)
+pick-keeps p s m k b = subst (λ (x : Pick). WF p (x .after)) (b .result) (complete-keeps p s m (b .cause) (b .from) (b .first) (b .well) (b .formed) (b .some-input))
 
--- an accepted manual pick keeps a state well-formed
+-- a size pick does
+pub size-keeps : (p : Profile) (s : State) (m : ℕ) (k : Pick) → sizePick p s m ≡ gives k → WF p (k .after)
+size-keeps p s m k h = pick-keeps p s m k (size-begun p s m k h)
+
+-- a manual pick does
 pub range-keeps : (p : Profile) (s : State) (m l : ℕ) (a b : Key) (k : Pick) → manualPick p s m l a b ≡ gives k → WF p (k .after)
-range-keeps p s m l a b k h =
-    let r = range-accepted p s m l a b k h in
-    let w = formed-says p s .0 (r .formed) in
-    subst (λ (x : Pick). WF p (x .after)) (r .result)
-    (complete-keeps p s m manual l (manualInputs m l (level s l) (between a b)) w (manual-formed m l (level s l) (between a b) (level-in-line p s l w)) (r .some-input))
+range-keeps p s m l a b k h = pick-keeps p s m k (range-begun p s m l a b k h)
 
 -- ---- the lists of a picked answer
 -- first inputs are files of the level, second inputs of the next, grandparents of the one after
@@ -373,7 +410,7 @@ grand-sub p s l r = go (ltb (l + 2) (p .levels))
     go true = overlapping-sub (l + 2) (level s (l + 2)) r
     go false = sub-none (level s (l + 2))
 
--- so are the lists of a pick
+-- the lists of a pick are files of their levels
 complete-of-level : (p : Profile) (s : State) (m : ℕ) (c : Cause) (l : ℕ) (first : List File) → WF p s → FormedAt l (level s l) first → OfLevel s (complete p s m c l first .picked)
 unfolding complete
 complete-of-level p s m c l first w h =
@@ -385,44 +422,18 @@ complete-of-level p s m c l first w h =
       grand = grand-sub p s l (rangeOf (grownFirst s m l first second ++ second));
     }
 
--- the same for a size pick
-pub size-inputs-of-level : (p : Profile) (s : State) (m : ℕ) (k : Pick) → sizePick p s m ≡ gives k → OfLevel s (k .picked)
-size-inputs-of-level p s m k h =
-    let a = size-accepted p s m k h in
-    let l = levelToCompact p s in
-    subst (λ (x : Pick). OfLevel s (x .picked)) (a .result)
-    (complete-of-level p s m (bySize (reported (score s l))) l (sizeInputs l (pointer s l) (level s l)) (formed-says p s .0 (a .formed)) (size-formed l (pointer s l) (level s l)))
-
--- the same for a manual pick
-pub range-inputs-of-level : (p : Profile) (s : State) (m l : ℕ) (a b : Key) (k : Pick) → manualPick p s m l a b ≡ gives k → OfLevel s (k .picked)
-range-inputs-of-level p s m l a b k h =
-    let r = range-accepted p s m l a b k h in
-    let w = formed-says p s .0 (r .formed) in
-    subst (λ (x : Pick). OfLevel s (x .picked)) (r .result)
-    (complete-of-level p s m manual l (manualInputs m l (level s l) (between a b)) w (manual-formed m l (level s l) (between a b) (level-in-line p s l w)))
+-- so are those of an accepted pick
+pub pick-of-level : (p : Profile) (s : State) (m : ℕ) (k : Pick) → Begun p s m k → OfLevel s (k .picked)
+pick-of-level p s m k b = subst (λ (x : Pick). OfLevel s (x .picked)) (b .result) (complete-of-level p s m (b .cause) (b .from) (b .first) (b .well) (b .formed))
 
 -- a pick from some first inputs has a first input
 complete-nonempty : (p : Profile) (s : State) (m : ℕ) (c : Cause) (l : ℕ) (first : List File) → isEmpty first ≡ false → isEmpty (complete p s m c l first .picked .first) ≡ false
 unfolding complete
 complete-nonempty p s m c l first e = grown-nonempty s m l first (inputs (suc l) (level s (suc l)) (rangeOf first)) e
 
--- a size pick has one
-pub size-first-nonempty : (p : Profile) (s : State) (m : ℕ) (k : Pick) → sizePick p s m ≡ gives k → isEmpty (k .picked .first) ≡ false
-unfolding level
-size-first-nonempty p s m k h =
-    let a = size-accepted p s m k h in
-    let w = formed-says p s .0 (a .formed) in
-    let l = levelToCompact p s in
-    subst (λ (x : Pick). isEmpty (x .picked .first) ≡ false) (a .result)
-    (complete-nonempty p s m (bySize (reported (score s l))) l (sizeInputs l (pointer s l) (level s l))
-    (size-nonempty p l (pointer s l) (level s l) (λ f i. w .good f (join-in (s .files) l f i)) (due-nonempty s l (a .is-due))))
-
--- a manual pick has one
-pub range-first-nonempty : (p : Profile) (s : State) (m l : ℕ) (a b : Key) (k : Pick) → manualPick p s m l a b ≡ gives k → isEmpty (k .picked .first) ≡ false
-range-first-nonempty p s m l a b k h =
-    let r = range-accepted p s m l a b k h in
-    subst (λ (x : Pick). isEmpty (x .picked .first) ≡ false) (r .result)
-    (complete-nonempty p s m manual l (manualInputs m l (level s l) (between a b)) (r .some-input))
+-- an accepted pick has one
+pub pick-nonempty : (p : Profile) (s : State) (m : ℕ) (k : Pick) → Begun p s m k → isEmpty (k .picked .first) ≡ false
+pick-nonempty p s m k b = subst (λ (x : Pick). isEmpty (x .picked .first) ≡ false) (b .result) (complete-nonempty p s m (b .cause) (b .from) (b .first) (b .some-input))
 
 -- ---- growth keeps the second inputs: the files of level + 1 that overlap the final first inputs' range, completed, are exactly the second inputs
 -- a list of good files lies in its own range
@@ -544,24 +555,9 @@ complete-second-same p s m c l [] w h e = clash refl e
 complete-second-same p s m c l (x ∷ xs) w h e = same-overlap s m l x xs
     (λ f i. goodFile-order p f (w .good f (join-in (s .files) l f i))) (level-line p s l w) (formed-sub l (level s l) (x ∷ xs) (level-in-line p s l w) h)
 
--- the same for a size pick
-pub size-second-same : (p : Profile) (s : State) (m : ℕ) (k : Pick) → sizePick p s m ≡ gives k
-    → inputs (suc (k .picked .level)) (level s (suc (k .picked .level))) (rangeOf (k .picked .first)) ≡ k .picked .second
-unfolding level complete
-size-second-same p s m k h =
-    let a = size-accepted p s m k h in
-    let w = formed-says p s .0 (a .formed) in
-    let l = levelToCompact p s in
-    subst (λ (x : Pick). inputs (suc (x .picked .level)) (level s (suc (x .picked .level))) (rangeOf (x .picked .first)) ≡ x .picked .second) (a .result)
-    (complete-second-same p s m (bySize (reported (score s l))) l (sizeInputs l (pointer s l) (level s l)) w (size-formed l (pointer s l) (level s l))
-    (size-nonempty p l (pointer s l) (level s l) (λ f i. w .good f (join-in (s .files) l f i)) (due-nonempty s l (a .is-due))))
-
--- the same for a manual pick
-pub range-second-same : (p : Profile) (s : State) (m l : ℕ) (a b : Key) (k : Pick) → manualPick p s m l a b ≡ gives k
+-- the same for an accepted pick
+pub pick-second-same : (p : Profile) (s : State) (m : ℕ) (k : Pick) → Begun p s m k
     → inputs (suc (k .picked .level)) (level s (suc (k .picked .level))) (rangeOf (k .picked .first)) ≡ k .picked .second
 unfolding complete
-range-second-same p s m l a b k h =
-    let r = range-accepted p s m l a b k h in
-    let w = formed-says p s .0 (r .formed) in
-    subst (λ (x : Pick). inputs (suc (x .picked .level)) (level s (suc (x .picked .level))) (rangeOf (x .picked .first)) ≡ x .picked .second) (r .result)
-    (complete-second-same p s m manual l (manualInputs m l (level s l) (between a b)) w (manual-formed m l (level s l) (between a b) (level-in-line p s l w)) (r .some-input))
+pick-second-same p s m k b = subst (λ (x : Pick). inputs (suc (x .picked .level)) (level s (suc (x .picked .level))) (rangeOf (x .picked .first)) ≡ x .picked .second) (b .result)
+    (complete-second-same p s m (b .cause) (b .from) (b .first) (b .well) (b .formed) (b .some-input))

@@ -15,19 +15,18 @@ use Rattle.lemmas.specs.Runs.{run-sub}
 use Rattle.model.specs.Key.{Key, before}
 use Rattle.model.specs.KeyLaws.{before-order}
 use Rattle.model.specs.Answer.{gives}
-use Rattle.model.specs.File.{Profile, File, State, level, pointer, total, numbers, bySmallest, goodFile, inOrder}
-use Rattle.model.specs.Score.{score, levelToCompact, reported}
-use Rattle.model.specs.Range.{Range, between, overlapping, rangeOf}
+use Rattle.model.specs.File.{Profile, File, State, level, total, numbers, bySmallest, goodFile, inOrder}
+use Rattle.model.specs.Range.{Range, overlapping, rangeOf}
 use Rattle.model.specs.Completion.{inputs}
-use Rattle.model.specs.Pick.{sizeInputs, manualInputs, Cause, bySize, manual, Picked, Pick, grandOf, grownFirst, complete, badMaximum, sizePick, manualPick, goodLevel, goodPicked}
+use Rattle.model.specs.Pick.{Cause, Picked, Pick, grandOf, grownFirst, complete, badMaximum, sizePick, manualPick, goodLevel, goodPicked}
 use Rattle.model.specs.Question.{passed, Cutter, cutStep}
 use Rattle.model.specs.Calls.{counts-up-to, goodCutter}
-use Rattle.model.specs.Formed.{WF, formed-says, goodFile-order, distinct-level}
+use Rattle.model.specs.Formed.{WF, goodFile-order, distinct-level}
 use Rattle.model.specs.ScoreLaws.{level-is}
 pub use Rattle.model.specs.LineLaws.{levelwise-at}
 use Rattle.model.specs.LineLaws.{level-line}
 use Rattle.model.specs.CompletionLaws.{inputs-run}
-use Rattle.model.specs.PickLaws.{size-accepted, range-accepted, overlapping-sub, FormedAt, level-in-line, formed-sub, size-formed, manual-formed, grown-formed, due-nonempty, size-nonempty, grown-nonempty}
+use Rattle.model.specs.PickLaws.{range-accepted, overlapping-sub, FormedAt, level-in-line, formed-sub, grown-formed, grown-nonempty, Begun, size-begun, range-begun}
 
 -- Calls accept what other calls return: a picked answer is well-formed, and the cutter keeps its memory well-formed. Assumes nothing.
 
@@ -219,27 +218,22 @@ complete-good p s m c l first w h bm formed ne =
       room = omega (arith, sub-length sub₁, sub-length sub₂, g .few, three-levels (s .files) l, w .room);
     }
 
--- the same for a size pick
-pub size-good : (p : Profile) (s : State) (m : ℕ) (k : Pick) → 2 ≤ p .levels → sizePick p s m ≡ gives k → goodPicked p (k .picked) ≡ true
-unfolding level
-size-good p s m k two h =
-    let a = size-accepted p s m k h in
-    let w = formed-says p s .0 (a .formed) in
-    let l = levelToCompact p s in
-    let some-file = due-nonempty s l (a .is-due) in
-    subst (λ (x : Pick). goodPicked p (x .picked) ≡ true) (a .result)
-    (complete-good p s m (bySize (reported (score s l))) l (sizeInputs l (pointer s l) (level s l)) w (omega (arith, level-is p s two .among)) (a .maximum)
-    (size-formed l (pointer s l) (level s l)) (size-nonempty p l (pointer s l) (level s l) (λ f i. w .good f (join-in (s .files) l f i)) some-file))
+-- an accepted pick below the last level gives one
+pick-good : (p : Profile) (s : State) (m : ℕ) (k : Pick) (b : Begun p s m k) → suc (b .from) < p .levels → goodPicked p (k .picked) ≡ true
+pick-good p s m k b below =
+    subst (λ (x : Pick). goodPicked p (x .picked) ≡ true) (b .result) (complete-good p s m (b .cause) (b .from) (b .first) (b .well) below (b .maximum) (b .formed) (b .some-input))
 
--- the same for a manual pick
+-- a size pick does
+pub size-good : (p : Profile) (s : State) (m : ℕ) (k : Pick) → 2 ≤ p .levels → sizePick p s m ≡ gives k → goodPicked p (k .picked) ≡ true
+unfolding size-begun
+size-good p s m k two h = pick-good p s m k (size-begun p s m k h) (omega (arith, level-is p s two .among))
+
+-- a manual pick does
 pub range-good : (p : Profile) (s : State) (m l : ℕ) (a b : Key) (k : Pick) → manualPick p s m l a b ≡ gives k → goodPicked p (k .picked) ≡ true
+unfolding range-begun
 range-good p s m l a b k h =
     let r = range-accepted p s m l a b k h in
-    let w = formed-says p s .0 (r .formed) in
-    let below = ltb-true l (p .levels) (r .in-levels) in
-    subst (λ (x : Pick). goodPicked p (x .picked) ≡ true) (r .result)
-    (complete-good p s m manual l (manualInputs m l (level s l) (between a b)) w (under below (eqb-false (suc l) (p .levels) (r .not-last))) (r .maximum)
-    (manual-formed m l (level s l) (between a b) (level-in-line p s l w)) (r .some-input))
+    pick-good p s m k (range-begun p s m l a b k h) (under (ltb-true l (p .levels) (r .in-levels)) (eqb-false (suc l) (p .levels) (r .not-last)))
   where
     under : l < p .levels → (suc l ≡ p .levels → ⊥) → suc l < p .levels
     under i n = omega arith

@@ -8,13 +8,13 @@ use Rattle.lemmas.specs.Order.{clash}
 use Rattle.lemmas.specs.Lists.{isEmpty}
 use Rattle.model.specs.Answer.{Answer, gives, refused}
 use Rattle.model.specs.Completion.{inputs}
-use Rattle.model.specs.EdgeLaws.{NoneLeft, size-none-left, range-none-left}
+use Rattle.model.specs.EdgeLaws.{NoneLeft, pick-none-left}
 use Rattle.model.specs.File.{State, full, level}
 use Rattle.model.specs.Formed.{WF, formed-says}
 use Rattle.model.specs.Key.{Key}
 use Rattle.model.specs.Pick as model
 use Rattle.model.specs.Pick.{goodPicked, sizePick, manualPick}
-use Rattle.model.specs.PickLaws.{OfLevel, size-keeps, range-keeps, size-inputs-of-level, range-inputs-of-level, size-first-nonempty, range-first-nonempty, size-second-same, range-second-same}
+use Rattle.model.specs.PickLaws.{Begun, size-begun, range-begun, OfLevel, pick-keeps, pick-of-level, pick-nonempty, pick-second-same}
 use Rattle.model.specs.PickedLaws.{size-good, range-good}
 use Rattle.model.specs.Range.{rangeOf}
 use Rattle.answers.specs.Outcome.{outcomeOf}
@@ -53,6 +53,17 @@ record Sound (t : State) (k : model.Pick) : Type 0 where
   none-left : NoneLeft (k .after) (k .picked)
   keeps : WF full (k .after)
 
+-- a pick that was made of first inputs, with a well-formed answer, is so
+sound : (t : State) (m : ℕ) (k : model.Pick) → Begun full t m k → goodPicked full (k .picked) ≡ true → Sound t k
+sound t m k b g = record {
+  good = g;
+  of-level = pick-of-level full t m k b;
+  some-input = pick-nonempty full t m k b;
+  second-same = pick-second-same full t m k b;
+  none-left = pick-none-left full t m k b;
+  keeps = pick-keeps full t m k b;
+}
+
 -- a call that gives a result on a store gives it for the state
 given-on : (s : Store) (call : State → Answer model.Pick) (k : model.Pick) → onStore s call ≡ gives k → call (stateOf s) ≡ gives k
 unfolding onStore
@@ -63,7 +74,7 @@ given-on s call k e = go (soundStore s) e
     go false z = let w : true ≡ false = cc in clash refl w
 
 -- from the state to the store
-module _ (s : Store) (call : State → Answer model.Pick) (sound : (k : model.Pick) → call (stateOf s) ≡ gives k → Sound (stateOf s) k) where
+module _ (s : Store) (call : State → Answer model.Pick) (all-sound : (k : model.Pick) → call (stateOf s) ≡ gives k → Sound (stateOf s) k) where
   -- the pick that the model's answer stands for, with its store
   by-value : pickOf s (onStore s call) .outcome ≡ Done → Accepted s (pickOf s (onStore s call) .picked) (pickOf s (onStore s call) .store)
   unfolding pickOf outcomeOf
@@ -72,7 +83,7 @@ module _ (s : Store) (call : State → Answer model.Pick) (sound : (k : model.Pi
       go : (a : Answer model.Pick) → onStore s call ≡ a → pickOf s a .outcome ≡ Done → Accepted s (pickOf s a .picked) (pickOf s a .store)
       go (refused n) e z = let w : true ≡ false = cc in clash refl w
       go (gives k) e z =
-          let g = sound k (given-on s call k e) in
+          let g = all-sound k (given-on s call k e) in
           let h = picked.held (k .picked) (g .good) .0 in
           let left = formed-says full (k .after) .1 (g .keeps) in
           record {
@@ -96,14 +107,7 @@ module _ (s : Store) (m : ℕ) where
   -- the pick of the model
   size-sound : (k : model.Pick) → sizePick full (stateOf s) m ≡ gives k → Sound (stateOf s) k
   unfolding full
-  size-sound k e = record {
-    good = size-good full (stateOf s) m k (omega arith) e;
-    of-level = size-inputs-of-level full (stateOf s) m k e;
-    some-input = size-first-nonempty full (stateOf s) m k e;
-    second-same = size-second-same full (stateOf s) m k e;
-    none-left = size-none-left full (stateOf s) m k e;
-    keeps = size-keeps full (stateOf s) m k e;
-  }
+  size-sound k e = sound (stateOf s) m k (size-begun full (stateOf s) m k e) (size-good full (stateOf s) m k (omega arith) e)
 
   -- by value
   pub size-accepted : let r = pickOf s (onStore s (λ t. sizePick full t m)) in r .outcome ≡ Done → Accepted s (r .picked) (r .store)
@@ -117,14 +121,7 @@ module _ (s : Store) (m : ℕ) where
 module _ (s : Store) (m l : ℕ) (a b : Key) where
   -- the pick of the model
   range-sound : (k : model.Pick) → manualPick full (stateOf s) m l a b ≡ gives k → Sound (stateOf s) k
-  range-sound k e = record {
-    good = range-good full (stateOf s) m l a b k e;
-    of-level = range-inputs-of-level full (stateOf s) m l a b k e;
-    some-input = range-first-nonempty full (stateOf s) m l a b k e;
-    second-same = range-second-same full (stateOf s) m l a b k e;
-    none-left = range-none-left full (stateOf s) m l a b k e;
-    keeps = range-keeps full (stateOf s) m l a b k e;
-  }
+  range-sound k e = sound (stateOf s) m k (range-begun full (stateOf s) m l a b k e) (range-good full (stateOf s) m l a b k e)
 
   -- by value
   pub range-accepted : let r = pickOf s (onStore s (λ t. manualPick full t m l a b)) in r .outcome ≡ Done → Accepted s (r .picked) (r .store)
