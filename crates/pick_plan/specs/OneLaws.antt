@@ -9,30 +9,27 @@ use lib.Dec.{eqb, ltb}
 use borrow.Author.Tests.{lt-ltb, le-ltb, ltb-true, ltb-false, eqb-true, eqb-false, eq-eqb, ne-eqb}
 use lib.ListN.{length, getD}
 use Rattle.lemmas.specs.ListLaws.{sub-all}
-use Rattle.lemmas.specs.Lists.{find, isEmpty, sum}
+use Rattle.lemmas.specs.Lists.{isEmpty}
 use Rattle.lemmas.specs.Order.{clash}
 use Rattle.model.specs.Completion.{completed, completedAt}
-use Rattle.model.specs.File.{File, full, level, pointer, total, levelCount, maxBytes, maxFiles}
-use Rattle.model.specs.Formed.{formed-says}
-use Rattle.model.specs.LineLaws.{Line, level-line}
+use Rattle.model.specs.File.{File, level, pointer, total, levelCount, maxBytes, maxFiles}
+use Rattle.model.specs.LineLaws.{Line}
 use Rattle.model.specs.Pick.{startFile}
-use Rattle.model.specs.Range.{lowKey, highKey}
 use Rattle.keys.specs.Key.{keyOf}
-use Rattle.keys.specs.KeyLaws.{keyOf-record}
 use Rattle.records.specs.Record.{fileOf, past}
 use Rattle.records.specs.RecordLaws.{run-turn, run-ended, total-turn, total-ended}
 use Rattle.records.specs.Run.{run}
 use Rattle.records.specs.declared.FileRecord.{FileRecord}
 use Rattle.store.specs.declared.Store.{Store}
 use Rattle.store.specs.Store.{stateOf, wellStore, StoreShape}
-use Rattle.store.specs.StoreLaws as store
 use Rattle.store.specs.StoreLaws.{past as pastPointer}
 use Rattle.pick_found.specs.declared.FoundRun.{FoundRun}
 use Rattle.pick_found.specs.FoundRun.{fileAt, startAt, endAt, noneAt, inputsOf, Summed, Known}
 use Rattle.pick_found.specs.CallsLaws.{level-run, level-ends, files-room}
-use Rattle.pick_found.specs.ContiguousLaws.{run-parts}
+use Rattle.pick_found.specs.ContiguousLaws.{none-summed, run-parts}
 use Rattle.pick_found.specs.FoundLaws.{level-part, level-known, summed-one, total-joined}
 use Rattle.pick_search.specs.declared.Question.{Question}
+use Rattle.pick_search.specs.AskedLaws.{deeper-line}
 use Rattle.pick_search.specs.Choice.{askedEdges, edgeQuestion}
 use Rattle.pick_search.specs.CompletedLaws.{not-completed, is-completed}
 use Rattle.pick_search.specs.Search.{Takable, Takes}
@@ -46,13 +43,13 @@ use Rattle.pick_plan.specs.StartLaws.{places, startsAt, places-due, star
 -- ---- no file
 -- files can be taken after none
 none-takable : (files : List FileRecord) (to : ℕ) → to ≤ maxFiles → Takable files to (noneAt to)
-unfolding noneAt lowKey highKey find total sum
+unfolding noneAt
 none-takable files to h =
     let none = run-ended to (to + 0) files (omega arith) in
     record {
       fits = omega arith;
       room = h;
-      sums = rw none record { low = keyOf-record [] (omega arith); high = keyOf-record [] (omega arith); bytes-are = refl };
+      sums = rw none (none-summed to);
       small = omega (arith, total-ended (to + 0) to files (omega arith));
     }
 
@@ -118,7 +115,7 @@ module _ (s : Store) (q : StoreShape s) (h : wellStore s ≡ true) (n : ℕ) (l 
         go zero e = not-completed (s .files) (startAt s n) (edgeQuestion n (endAt s n)) (oneAt s j) r size least (omega arith) g (subst (λ (k : ℕ). askedEdges k 0 ≡ false) e refl) ∙ one-is
         go (suc m) e =
             let same : level (stateOf s) (suc m) ≡ run (startAt s n) (endAt s n) (s .files) = ap (level (stateOf s)) e ∙ is-level in
-            let line = subst Line same (level-line full (stateOf s) m (formed-says full (stateOf s) .0 (store.well-says s .0 h .formed))) in
+            let line = subst Line same (deeper-line s (suc m) h (λ z. omega arith)) in
             let edges : askedEdges (suc m) 0 ≡ true = rw (ne-eqb (suc m) 0 (λ z. omega arith)) in
             is-completed (s .files) (startAt s n) (edgeQuestion n (endAt s n)) (oneAt s j) r size least (omega arith) g (subst (λ (k : ℕ). askedEdges k 0 ≡ true) e edges) line
             ∙ ap (λ (fs : List File). completed fs (run j (j + 1) (s .files))) (sym same) ∙ ap (completed (level (stateOf s) (suc m))) one-is

@@ -241,6 +241,7 @@ fn size_planned(scored: Scored, started: Started, maximum: u64) -> PickPlan
     let Start::At(i) = found else {
         return refused_plan(Refusal::NOTHING);
     };
+    // Its first inputs, from that place on.
     let mut first = started.first;
     first.from = i;
     let span = pick_found::range_of(first);

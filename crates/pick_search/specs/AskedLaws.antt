@@ -46,8 +46,8 @@ edges-deeper : (n k : ℕ) → askedEdges n k ≡ true → n ≡ 0 → ⊥
 unfolding askedEdges
 edges-deeper n k e = eqb-false n 0 (neither-left (eqb n 0) (eqb k 4) e)
 
--- such a level of a well-formed store stands in line
-deeper-line : (s : Store) (n : ℕ) → wellStore s ≡ true → (n ≡ 0 → ⊥) → Line (level (stateOf s) n)
+-- a level above 0 of a well-formed store stands in line
+pub deeper-line : (s : Store) (n : ℕ) → wellStore s ≡ true → (n ≡ 0 → ⊥) → Line (level (stateOf s) n)
 deeper-line s zero h z = absurd (z refl)
 deeper-line s (suc n) h z = level-line full (stateOf s) n (formed-says full (stateOf s) .0 (store.well-says s .0 h .formed))
 
