@@ -1,7 +1,7 @@
 // shell: reads a script on standard input and prints one answer line for each command.
 ghost use Prim.Native.Nat.{_≤_};
 ghost use lib.ListN.{length};
-use script_table::Fault;
+use shell_answer::Begun;
 use shell_machine::Machine;
 use store::Store;
 
@@ -20,157 +20,42 @@ fn print(out: &mut [u8], at: usize) {
     }
 }
 
-// Prints what is wrong with a line.
-fn refuse(out: &mut [u8], line: &[u8], f: Fault) {
-    let at = script_table::put_fault(out, line, f);
-    print(out, at)
-}
-
-// ---- commands that need no store
-
-// The text after the first word.
-fn put_echo(out: &mut [u8], line: &[u8]) -> usize {
-    let n = line.len();
-    if n < 6 {
-        return 0;
-    }
-    script_lines::put(out, 0, &line[5..])
-}
-
-// Answers a command that needs no store.
-fn answer_plain(out: &mut [u8], line: &[u8], which: u8) {
-    if which == b'e' {
-        let at = put_echo(out, line);
-        return print(out, at);
-    }
-    if which == b'h' {
-        let at = script_table::put_help(out, line);
-        return print(out, at);
-    }
-    let at = shell_key::put_answer(out, line, which);
-    print(out, at)
-}
-
-// ---- commands on the machine
-
-// Answers a question about the store, its levels or its keys.
-fn ask(out: &mut [u8], s: Store, line: &[u8], group: u8, which: u8) {
-    if group == b'a' {
-        let at = shell_ask::put_answer(out, s, line, which);
-        return print(out, at);
-    }
-    let at = shell_find::put_answer(out, s, line, which);
-    print(out, at)
-}
-
 // Writes the store's snapshot: keeps it under a letter, or saves it to a file.
-fn write(out: &mut [u8], kept: &mut [u8], s: Store, line: &[u8], which: u8) {
+fn put_written(out: &mut [u8], kept: &mut [u8], s: Store, line: &[u8], which: u8) -> usize {
     if which == b'k' {
-        let at = shell_difference::keep(out, s, line, kept);
-        return print(out, at);
+        return shell_difference::keep(out, s, line, kept);
     }
-    let at = shell_file::save(out, s, line);
-    print(out, at)
+    shell_file::save(out, s, line)
 }
 
-// A fresh store, or the maximum file size that picks take from here on.
-fn settle(out: &mut [u8], m: Machine, line: &[u8], which: u8) -> Machine {
-    let at = script_lines::put(out, 0, b"ok");
-    print(out, at);
-    if which == b'n' {
-        let p = m.picks;
-        return shell_machine::fresh(p.maximum);
+// Lays the answer of a command that leaves the machine as it is, and says where it ends.
+fn put_still(out: &mut [u8], kept: &mut [u8], s: Store, line: &[u8], c: Begun) -> usize {
+    if c.group == b'p' {
+        return c.at;
     }
-    let n = script_parts::number(line, script_parts::words_of(line), 1);
-    shell_machine::set_maximum(m, n.value)
-}
-
-// ---- lines
-
-// Whether a line gives no answer: it is blank, or begins with #.
-fn is_silent(line: &[u8]) -> bool {
-    if line.len() == 0 {
-        return true;
+    if c.group == b'd' {
+        return shell_difference::put_answer(out, kept, line, c.which);
     }
-    line[0] == b'#'
-}
-
-// A command that is still to be answered: its group and its letter in the table of commands; group 0: none.
-struct Command {
-    group: u8,
-    which: u8,
-}
-
-// No command.
-fn no_command() -> Command {
-    Command { group: 0, which: 0 }
-}
-
-// Reads a line, and answers it where that needs no store.
-fn begin(out: &mut [u8], kept: &[u8], line: &[u8]) -> Command {
-    if is_silent(line) {
-        return no_command();
+    if c.group == b'w' {
+        return put_written(out, kept, s, line, c.which);
     }
-    let r = script_table::read(line);
-    let f = r.fault;
-    if f.kind != 0 {
-        refuse(out, line, f);
-        return no_command();
-    }
-    if r.group == b'p' {
-        answer_plain(out, line, r.which);
-        return no_command();
-    }
-    if r.group == b'd' {
-        let at = shell_difference::put_answer(out, kept, line, r.which);
-        print(out, at);
-        return no_command();
-    }
-    Command {
-        group: r.group,
-        which: r.which,
-    }
-}
-
-// The machine after a command that changes it.
-fn turned(out: &mut [u8], m: Machine, line: &[u8], group: u8, which: u8) -> Machine {
-    if group == b'c' {
-        return shell_machine::change(out, m, line, which);
-    }
-    if group == b'k' {
-        return shell_machine::pick_next(out, m, line, which);
-    }
-    if group == b'o' {
-        return shell_machine::open(out, m, line);
-    }
-    shell_machine::follow(out, m, line, which)
-}
-
-// Answers a command that changes the machine.
-fn turn(out: &mut [u8], m: Machine, line: &[u8], group: u8, which: u8) -> Machine {
-    if group == b'm' {
-        return settle(out, m, line, which);
-    }
-    let after = turned(out, m, line, group, which);
-    print(out, after.at);
-    after
+    shell_answer::put_asked(out, s, line, c.group, c.which)
 }
 
 // Answers a line.
 fn answer(out: &mut [u8], kept: &mut [u8], m: Machine, line: &[u8]) -> Machine {
-    let c = begin(out, kept, line);
+    let c = shell_answer::begin(out, line);
     if c.group == 0 {
         return m;
     }
-    if (c.group == b'a') | (c.group == b'q') {
-        ask(out, m.store, line, c.group, c.which);
+    if c.still {
+        let at = put_still(out, kept, m.store, line, c);
+        print(out, at);
         return m;
     }
-    if c.group == b'w' {
-        write(out, kept, m.store, line, c.which);
-        return m;
-    }
-    turn(out, m, line, c.group, c.which)
+    let after = shell_machine::turn(out, m, line, c.group, c.which);
+    print(out, after.at);
+    after
 }
 
 // How many bytes of a line count: without a carriage return at its end. Says so if the line is too long, and then counts none.

@@ -55,7 +55,7 @@ pub fn fresh(maximum: u64) -> Machine
 }
 
 // Changes the store.
-pub fn change(out: &mut [u8], m: Machine, line: &[u8], which: u8) -> Machine
+fn change(out: &mut [u8], m: Machine, line: &[u8], which: u8) -> Machine
     ensures { λ r. ⌜ (r .at ≤ length (now (out .exit))) × (r .store ≡ changedBy (m .store) (now (line .entry)) which .store) × (r .picks ≡ m .picks) ⌝ }
 {
     let c = shell_edit::change(m.store, line, which);
@@ -72,7 +72,7 @@ pub fn change(out: &mut [u8], m: Machine, line: &[u8], which: u8) -> Machine
 }
 
 // Reads the store from a file.
-pub fn open(out: &mut [u8], m: Machine, line: &[u8]) -> Machine
+fn open(out: &mut [u8], m: Machine, line: &[u8]) -> Machine
     ensures { λ r. ⌜ (r .at ≤ length (now (out .exit))) × Left (m .store) (r .store) × (r .picks ≡ m .picks) ⌝ }
 {
     let o = shell_file::open(out, m.store, line);
@@ -119,7 +119,7 @@ fn left(p: Picks, r: Pick) -> Picks
 }
 
 // Picks what to compact.
-pub fn pick_next(out: &mut [u8], m: Machine, line: &[u8], which: u8) -> Machine
+fn pick_next(out: &mut [u8], m: Machine, line: &[u8], which: u8) -> Machine
     ensures { λ r. ⌜ (r .at ≤ length (now (out .exit))) × (r .store ≡ pickedBy (m .store) (m .picks .maximum) (now (line .entry)) which .store) ⌝ }
 {
     let p = m.picks;
@@ -148,7 +148,7 @@ fn put_unpicked(out: &mut [u8], line: &[u8]) -> usize
 }
 
 // Answers a command on the last pick. If there is no pick, says so.
-pub fn follow(out: &mut [u8], m: Machine, line: &[u8], which: u8) -> Machine
+fn follow(out: &mut [u8], m: Machine, line: &[u8], which: u8) -> Machine
     ensures { λ r. ⌜ (r .at ≤ length (now (out .exit))) × (r .store ≡ m .store) × Stays (m .picks) (r .picks) ⌝ }
 {
     let s = m.store;
@@ -169,9 +169,9 @@ pub fn follow(out: &mut [u8], m: Machine, line: &[u8], which: u8) -> Machine
     }
 }
 
-// Sets the maximum file size that picks take from here on.
-pub fn set_maximum(m: Machine, maximum: u64) -> Machine
-    ensures { λ r. ⌜ (r .store ≡ m .store) × (r .picks .maximum ≡ maximum) × (r .picks .has ≡ m .picks .has) × (r .picks .picked ≡ m .picks .picked) ⌝ }
+// The same machine with another maximum file size, which picks take from here on.
+fn with_maximum(m: Machine, maximum: u64, at: usize) -> Machine
+    ensures { λ r. ⌜ (r .store ≡ m .store) × (r .picks .maximum ≡ maximum) × (r .picks .has ≡ m .picks .has) × (r .picks .picked ≡ m .picks .picked) × (r .at ≡ at) ⌝ }
 {
     let s = m.store;
     let mut p = m.picks;
@@ -179,6 +179,40 @@ pub fn set_maximum(m: Machine, maximum: u64) -> Machine
     Machine {
         store: s,
         picks: p,
-        at: 0,
+        at: at,
     }
+}
+
+// A fresh store, or the maximum file size that a line names.
+fn settle(out: &mut [u8], m: Machine, line: &[u8], which: u8) -> Machine
+    ensures { λ r. ⌜ r .at ≤ length (now (out .exit)) ⌝ }
+{
+    let end = script_lines::put(out, 0, b"ok");
+    let at = script_lines::within(out, end);
+    if which == b'n' {
+        let p = m.picks;
+        let f = fresh(p.maximum);
+        return with_maximum(f, p.maximum, at);
+    }
+    let n = script_parts::number(line, script_parts::words_of(line), 1);
+    with_maximum(m, n.value, at)
+}
+
+// Answers a command that changes the machine.
+pub fn turn(out: &mut [u8], m: Machine, line: &[u8], group: u8, which: u8) -> Machine
+    ensures { λ r. ⌜ r .at ≤ length (now (out .exit)) ⌝ }
+{
+    if group == b'm' {
+        return settle(out, m, line, which);
+    }
+    if group == b'c' {
+        return change(out, m, line, which);
+    }
+    if group == b'k' {
+        return pick_next(out, m, line, which);
+    }
+    if group == b'o' {
+        return open(out, m, line);
+    }
+    follow(out, m, line, which)
 }
