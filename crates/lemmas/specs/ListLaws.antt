@@ -65,6 +65,7 @@ module _ {A : Type 0} where
   -- where `find` finds nothing no item passes
   pub find_none : (p : A → Bool) (xs : List A) (x : A) → find p xs ≡ none → In x xs → p x ≡ false
   unfolding find
+  find_none p [] x e x4 = elim x4 [ ]
   find_none p (y ∷ ys) x e (here q) = go (p y) refl
     where
       go : (t : Bool) → p y ≡ t → p x ≡ false
@@ -107,6 +108,7 @@ module _ {A : Type 0} where
   -- by more, if one item passes it that does not pass the stronger test
   pub tally_less : (p q : A → Bool) (xs : List A) (x : A) → ((x : A) → p x ≡ true → q x ≡ true) → In x xs → p x ≡ false → q x ≡ true → tally p xs < tally q xs
   unfolding tally
+  tally_less p q [] x h x6 e f = elim x6 [ ]
   tally_less p q (y ∷ ys) x h (here i) e f =
       let e' : p y ≡ false = cc in
       let f' : q y ≡ true = cc in
@@ -122,6 +124,7 @@ module _ {A : Type 0} where
   -- if none is counted none passes
   pub tally_none : (p : A → Bool) (xs : List A) (x : A) → tally p xs ≤ 0 → In x xs → p x ≡ false
   unfolding tally
+  tally_none p [] x h x4 = elim x4 [ ]
   tally_none p (y ∷ ys) x h (here i) = ap p i ∙ go (p y) refl
     where
       go : (t : Bool) → p y ≡ t → p y ≡ false
@@ -168,6 +171,7 @@ module _ {A : Type 0} where
           go ih (inr k) = let r = ih k in (there r.0, r.1)
 
       to : (ys : List A) → In x ys → p x ≡ true → In x (keep p ys)
+      to [] x3 e = elim x3 [ ]
       to (y ∷ ys) (here q) e = push_head (p y) x y (keep p ys) (sym (ap p q) ∙ e) q
       to (y ∷ ys) (there m) e = push_tail (p y) x y (keep p ys) (to ys m e)
 
@@ -221,6 +225,7 @@ module _ {A : Type 0} (lt : A → A → Bool) where
           go ih (there k) = there (ih k)
 
       to : (ys : List A) → In x ys → In x (sort lt ys)
+      to [] x'' = elim x'' [ ]
       to (y ∷ ys) (here e) = (insert_in x y (sort lt ys)).1 (here e)
       to (y ∷ ys) (there m) = (insert_in x y (sort lt ys)).1 (there (to ys m))
 
@@ -311,6 +316,7 @@ module _ {A : Type 0} where
   -- an item that passes is counted
   pub tally_in : (p : A → Bool) (xs : List A) (x : A) → In x xs → p x ≡ true → 1 ≤ tally p xs
   unfolding tally
+  tally_in p [] x x4 h = elim x4 [ ]
   tally_in p (y ∷ ys) x (here e) h = let k : p y ≡ true = cc in rw k (omega arith)
   tally_in p (y ∷ ys) x (there m) h = go (tally_in p ys x m h) (p y)
     where
@@ -584,15 +590,16 @@ module _ {A : Type 0} where
 
   -- one item of a list alone
   pub sub_one : (x : A) (ys : List A) → In x ys → Sub (x ∷ []) ys
+  sub_one x [] x'' = elim x'' [ ]
   sub_one x (y ∷ ys) (here e) = subst (λ (z : A). Sub (z ∷ []) (y ∷ ys)) (sym e) (also (sub_none ys))
   sub_one x (y ∷ ys) (there m) = skip (sub_one x ys m)
 
   -- leaving out twice is leaving out
   pub sub_trans : {xs ys zs : List A} → Sub xs ys → Sub ys zs → Sub xs zs
-  sub_trans s end = s
-  sub_trans s (skip t) = skip (sub_trans s t)
-  sub_trans (skip s) (also t) = skip (sub_trans s t)
-  sub_trans (also s) (also t) = also (sub_trans s t)
+  sub_trans {xs = xs} s end = s
+  sub_trans {xs = xs} s (skip t) = skip (sub_trans {xs = xs} s t)
+  sub_trans {xs = xs} (skip s) (also t) = skip (sub_trans {xs = xs} s t)
+  sub_trans (also {xs = xs} s) (also t) = also (sub_trans {xs = xs} s t)
 
   -- an item of the shorter list is one of the longer
   pub sub_in : {xs ys : List A} (x : A) → Sub xs ys → In x xs → In x ys

@@ -28,6 +28,7 @@ module _ {A : Type 0} where
 
   -- one item
   pub run_one : (x : A) (ys : List A) → In x ys → Run ys (x ∷ [])
+  run_one x [] x'' = elim x'' [ ]
   run_one x (y ∷ ys) (here e) = record { left = []; right = ys; is = ap (λ (z : A). z ∷ ys) (sym e) }
   run_one x (y ∷ ys) (there m) = let r = run_one x ys m in record { left = y ∷ r.left; right = r.right; is = ap (λ (zs : List A). y ∷ zs) r.is }
 

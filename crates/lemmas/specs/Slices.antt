@@ -269,7 +269,7 @@ module _ {A : Type 0} where
       let a = join (take k ls) in
       let r = get_or ls k [] in
       let b = join (drop (suc k) ls) in
-      let size : get_or (map length ls) k 0 ≡ length r = ListN.get_d_map length ls k [] in
+      let size : get_or (map length ls) k 0 ≡ length r = ListN.get_or-map length ls k [] in
       rw (part_start_lem ls k, size)
       (ap (λ (s : List A). slice (length a) (length a + length r) (s ++ z)) (join_split ls k h)
       ∙ ap (slice (length a) (length a + length r)) (simp append_assoc) ∙ slice_mid a r (b ++ z))

@@ -26,6 +26,7 @@ rising fs = chain (λ f g. not (by_number g f)) fs
 -- the number of a file of the list is one of the list's numbers
 member_in : (xs : List File) (b : File) → In b xs → member b.number (numbers xs) ≡ true
 unfolding member any numbers
+member_in [] b x' = elim x' [ ]
 member_in (x ∷ xs) b (here e) = let q : eqb x.number b.number ≡ true = eq-eqb x.number b.number (ap (λ (f : File). f.number) (sym e)) in rw q
 member_in (x ∷ xs) b (there m) = go (member_in xs b m) (eqb x.number b.number)
   where
@@ -43,6 +44,7 @@ not_again x b xs d m e =
 -- if no number stands twice, a number has one file
 pub one_number : (xs : List File) → distinct (numbers xs) ≡ true → (a b : File) → In a xs → In b xs → a.number ≡ b.number → a ≡ b
 unfolding distinct numbers
+one_number [] d a b x4 _ q = elim x4 [ ]
 one_number (x ∷ xs) d a b (here e) (here e') q = e ∙ sym e'
 one_number (x ∷ xs) d a b (here e) (there m) q = absurd (not_again x b xs d m (ap (λ (f : File). f.number) (sym e) ∙ q))
 one_number (x ∷ xs) d a b (there m) (here e) q = absurd (not_again x a xs d m (ap (λ (f : File). f.number) (sym e) ∙ sym q))
@@ -55,12 +57,12 @@ module _ (lt : File → File → Bool) (o : StrictWeak lt) where
   sorted fs = chain (λ f g. not (lt g f)) fs
 
   -- no file of a sorted list is before its first
-  sorted_least : (x y : File) (xs : List File) → sorted (x ∷ xs) ≡ true → In y (x ∷ xs) → lt y x ≡ false
+  sorted_least : (y x : File) (xs : List File) → sorted (x ∷ xs) ≡ true → In y (x ∷ xs) → lt y x ≡ false
   unfolding chain
-  sorted_least x y xs c (here e) = subst (λ (z : File). lt z x ≡ false) (sym e) (o.irrefl x)
-  sorted_least x y [] c (there m) = absurd (not-nil m)
-  sorted_least x y (z ∷ zs) c (there m) =
-      o.ntrans y z x (sorted_least z y zs (and_right (not (lt z x)) (sorted (z ∷ zs)) c) m) (not-true (lt z x) (and_left (not (lt z x)) (sorted (z ∷ zs)) c))
+  sorted_least y x xs c (here e) = subst (λ (z : File). lt z x ≡ false) (sym e) (o.irrefl x)
+  sorted_least y x [] c (there m) = absurd (not-nil m)
+  sorted_least y x (z ∷ zs) c (there m) =
+      o.ntrans y z x (sorted_least y z zs (and_right (not (lt z x)) (sorted (z ∷ zs)) c) m) (not-true (lt z x) (and_left (not (lt z x)) (sorted (z ∷ zs)) c))
 
   -- two such lists are equal
   pub sorted_one : (xs ys : List File) → sorted xs ≡ true → sorted ys ≡ true → distinct (numbers xs) ≡ true → distinct (numbers ys) ≡ true
@@ -70,7 +72,7 @@ module _ (lt : File → File → Bool) (o : StrictWeak lt) where
   sorted_one [] (y ∷ ys) c d p q s t ties = absurd (not-nil (t y (here refl)))
   sorted_one (x ∷ xs) [] c d p q s t ties = absurd (not-nil (s x (here refl)))
   sorted_one (x ∷ xs) (y ∷ ys) c d p q s t ties =
-      let e : x ≡ y = ties x y (here refl) (t y (here refl)) (sorted_least y x ys d (s x (here refl))) (sorted_least x y xs c (t y (here refl))) in
+      let e : x ≡ y = ties x y (here refl) (t y (here refl)) (sorted_least x y ys d (s x (here refl))) (sorted_least y x xs c (t y (here refl))) in
       let rest = sorted_one xs ys (chain_rest (λ f g. not (lt g f)) x xs c) (chain_rest (λ f g. not (lt g f)) y ys d)
       (and_right (not (member x.number (numbers xs))) (distinct (numbers xs)) p) (and_right (not (member y.number (numbers ys))) (distinct (numbers ys)) q)
       (λ f m. over x y xs ys e p f m (s f (there m))) (λ f m. over y x ys xs (sym e) q f m (t f (there m))) (λ f g m n. ties f g (there m) (there n)) in

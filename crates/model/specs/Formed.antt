@@ -156,6 +156,7 @@ apart_sorted (x ∷ z ∷ zs) g c = both (not (by_smallest z x)) (chain (λ f g.
 -- no two of them have smallest keys equal in order
 pub apart_ties : (fs : List File) → ((f : File) → In f fs → before f.largest f.smallest ≡ false) → apart fs ≡ true
     → (f g : File) → In f fs → In g fs → by_smallest f g ≡ false → by_smallest g f ≡ false → f ≡ g
+apart_ties [] w c f g x6 _ p q = elim x6 [ ]
 apart_ties (x ∷ xs) w c f g (here e) (here e') p q = e ∙ sym e'
 apart_ties (x ∷ xs) w c f g (here e) (there m) p q = clash (subst (λ (h : File). by_smallest h g ≡ true) (sym e) (apart_first x g xs w c m)) p
 apart_ties (x ∷ xs) w c f g (there m) (here e) p q = clash (subst (λ (h : File). by_smallest h f ≡ true) (sym e) (apart_first x f xs w c m)) q

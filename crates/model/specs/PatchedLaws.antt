@@ -209,6 +209,7 @@ pointer_kept P l (counter_is i v ∷ ds) old h k = pointer_kept P l ds old (λ o
 -- every pointer for the level is this one, and there is one: it comes
 pointer_comes : (l : ℕ) (v : Option Key) (ds : List Difference) (old : Option Key) → ((o : Option Key) → In (pointer_is l o) ds → o ≡ v) → In (pointer_is l v) ds → pointer_after l ds old ≡ v
 unfolding pointer_after pointer_by
+pointer_comes l v [] old h x'' = elim x'' [ ]
 pointer_comes l v (d ∷ ds) old h (here e) =
     let q : eqb l l ≡ true = eq-eqb l l refl in
     let r : pointer_by l (pointer_is l v) old ≡ v = rw q in
@@ -232,6 +233,7 @@ counter_kept P i (counter_is m q ∷ ds) old h k = counter_kept P i ds (cond (eq
 -- every number for the counter is this one, and there is one: it comes
 counter_comes : (i v : ℕ) (ds : List Difference) (old : ℕ) → ((w : ℕ) → In (counter_is i w) ds → w ≡ v) → In (counter_is i v) ds → counter_after i ds old ≡ v
 unfolding counter_after counter_by
+counter_comes i v [] old h x'' = elim x'' [ ]
 counter_comes i v (d ∷ ds) old h (here e) =
     let q : eqb i i ≡ true = eq-eqb i i refl in
     let r : counter_by i (counter_is i v) old ≡ v = rw q in
