@@ -4,10 +4,10 @@ use borrow.Author.Rules.{rules}
 use Rattle.bisect.proofs.middle.Statement.{statement}
 use Rattle.bisect.proofs.middle.Tie as tie
 
-sub-result : tie.Need-overflow-sub-result
+sub-result : tie.Need-overflow_sub-result
 sub-result c = search rules
 
-add-result : tie.Need-overflow-add-result
+add-result : tie.Need-overflow_add-result
 add-result c = search rules
 
 returns : tie.Need-returns

@@ -18,66 +18,55 @@ use Rattle.model.specs.File.{key_room}
 use Rattle.keys.proofs.holds_zeros.Statement.{statement}
 use Rattle.keys.proofs.holds_zeros.Tie as tie
 
-abbrev invariant-loop : tie.invariant-loop
+abbrev invariant-loop : tie.invariant-loop-i
 invariant-loop k others₀ i₀ others i = (others ≤ i) × (i ≤ key_room) × (eqb others 0 && all is_zero (drop i k.bytes) ≡ all is_zero k.bytes)
 
-abbrev decreases-loop : tie.decreases-loop
+abbrev decreases-loop : tie.decreases-loop-i
 decreases-loop k others₀ i₀ others i = key_room - i
 
-loop-holds : tie.Need-loop-init invariant-loop decreases-loop
+loop-holds : tie.Need-loop-i-init invariant-loop decreases-loop
 loop-holds c = (omega arith, omega arith, refl)
 
-element-copy-out-if1 : tie.Need-element-copy-out-if1 invariant-loop decreases-loop
+element-copy-out-if1 : tie.Need-bounds-k-i invariant-loop decreases-loop
 element-copy-out-if1 c = omega arith
 
-add-others : tie.Need-overflow-add-others invariant-loop decreases-loop
+add-others : tie.Need-overflow_add-others invariant-loop decreases-loop
 add-others c = omega arith
 
-add-i : tie.Need-overflow-add-i invariant-loop decreases-loop
+add-i : tie.Need-overflow_add-i invariant-loop decreases-loop
 add-i c = omega arith
 
-loop-less : tie.Need-loop-smaller invariant-loop decreases-loop
+loop-less : tie.Need-loop-i-smaller invariant-loop decreases-loop
 loop-less c = omega arith
 
-loop-again : tie.Need-loop-preserved invariant-loop decreases-loop
+loop-again : tie.Need-loop-i-preserved invariant-loop decreases-loop
 unfolding is_zero
 loop-again c =
-    let l = c.before.before.before in
-    let x = l.before.args.t1.bytes in
-    let i = l.loop.i in
-    let others = l.loop.others in
+    let l = c in
+    let x = l.args.k.bytes in
+    let i = l.loop-i.i in
+    let others = l.loop-i.others in
     let long : length x ≡ key_room = search rules in
     let split : drop i x ≡ get_or x i 0 ∷ drop (i + 1) x = rest_cons x i 0 (omega arith) in
     ⊎_elim
     (λ w.
-    let some : eqb c.if1.others 0 ≡ false = ne_eqb c.if1.others 0 (λ z. absurd (omega (arith, w.1, z))) in
-    let broken : all is_zero (drop i x) ≡ false = all_here is_zero (drop i x) (drop (i + 1) x) (get_or x i 0) split (ne_eqb (get_or x i 0) 0 w.0.taken) in
-    (omega (arith, w.1), omega arith, rw some (sym (and-false (eqb others 0)) ∙ ap (λ b. eqb others 0 && b) (sym broken) ∙ l.loop.invariant.2)))
+    let some : eqb c.if-k-i-ne0.others 0 ≡ false = ne_eqb c.if-k-i-ne0.others 0 (λ z. absurd (omega (arith, w.others-is, z))) in
+    let broken : all is_zero (drop i x) ≡ false = all_here is_zero (drop i x) (drop (i + 1) x) (get_or x i 0) split (ne_eqb (get_or x i 0) 0 w.if-k-i-ne0.true) in
+    (omega (arith, w.others-is), omega arith, rw some (sym (and-false (eqb others 0)) ∙ ap (λ b. eqb others 0 && b) (sym broken) ∙ l.loop-i.invariant.2)))
     (λ w.
-    let on : all is_zero (drop i x) ≡ all is_zero (drop (i + 1) x) = all_later is_zero (drop i x) (drop (i + 1) x) (get_or x i 0) split (eq-eqb (get_or x i 0) 0 w.0.left) in
-    (omega (arith, w.1), omega arith, rw (w.1, sym on) l.loop.invariant.2))
-    c.if1.branch
+    let on : all is_zero (drop i x) ≡ all is_zero (drop (i + 1) x) = all_later is_zero (drop i x) (drop (i + 1) x) (get_or x i 0) split (eq-eqb (get_or x i 0) 0 w.if-k-i-ne0.false) in
+    (omega (arith, w.others-is), omega arith, rw (w.others-is, sym on) l.loop-i.invariant.2))
+    c.if-k-i-ne0.branch-raw
 
 returns : tie.Need-returns invariant-loop decreases-loop
 unfolding all
 returns c =
-    let l = c.before in
-    let x = l.before.args.t1.bytes in
+    let l = c in
+    let x = l.args.k.bytes in
     let long : length x ≡ key_room = search rules in
-    let ended : length x ≤ l.loop.i = omega arith in
-    let none : all is_zero (drop l.loop.i x) ≡ true = rw (drop_of_length-le x ended) in
-    sym (and_true (eqb l.loop.others 0)) ∙ ap (λ b. eqb l.loop.others 0 && b) (sym none) ∙ l.loop.invariant.2
+    let ended : length x ≤ l.loop-i.i = omega arith in
+    let none : all is_zero (drop l.loop-i.i x) ≡ true = rw (drop_of_length-le x ended) in
+    sym (and_true (eqb l.loop-i.others 0)) ∙ ap (λ b. eqb l.loop-i.others 0 && b) (sym none) ∙ l.loop-i.invariant.2
 
 pub holds_zeros_spec : {M : Type 1} → statement M
-holds_zeros_spec =
-    tie.close
-    (tie.spec
-    invariant-loop
-    decreases-loop
-    loop-holds
-    element-copy-out-if1
-    add-others
-    add-i
-    loop-less
-    loop-again
-    returns)
+holds_zeros_spec = tie.close (tie.spec invariant-loop decreases-loop loop-holds element-copy-out-if1 add-others add-i loop-less loop-again returns)

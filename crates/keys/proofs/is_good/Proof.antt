@@ -16,21 +16,21 @@ use Rattle.keys.specs.KeyLaws.{key_of_length, key_of_bytes, good_is, too_short}
 use Rattle.keys.proofs.is_good.Statement.{statement}
 use Rattle.keys.proofs.is_good.Tie as tie
 
-key-len-requires : tie.Need-key-len-requires
+key-len-requires : tie.Need-key_len-n-requires
 key-len-requires c κs = search rules
 
 -- the record's bytes are bytes
 bytes_here : (c : tie.Start) → are_bytes c.args.k.bytes ≡ true
 bytes_here c = bytes_all c.args.k.bytes (λ i. let f : Fits w8 (get_or c.args.k.bytes i 0) = search rules in f.fits)
 
-returns : tie.Need-returns
+returns : tie.Need-returns-then-n-le-TRAILER
 unfolding full
-returns c = sym (too_short longest_user (key_of c.before.before.args.k) (omega arith))
+returns c = sym (too_short longest_user (key_of c.args.k) (omega arith))
 
 kind-requires : tie.Need-kind-requires
 kind-requires c κs = search rules
 
-returns_2 : tie.Need-returns-2
+returns_2 : tie.Need-returns
 unfolding full
 returns_2 c =
     let s = c.before.before.before in

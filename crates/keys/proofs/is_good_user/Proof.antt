@@ -14,7 +14,7 @@ use Rattle.keys.specs.KeyLaws.{user_of_length, user_of_bytes, good_user_is}
 use Rattle.keys.proofs.is_good_user.Statement.{statement}
 use Rattle.keys.proofs.is_good_user.Tie as tie
 
-user-key-len-requires : tie.Need-user-key-len-requires
+user-key-len-requires : tie.Need-user_key_len-n-requires
 user-key-len-requires c κs = search rules
 
 -- the record's bytes are bytes
@@ -24,8 +24,8 @@ bytes_here c = bytes_all c.args.u.bytes (λ i. let f : Fits w8 (get_or c.args.u.
 returns : tie.Need-returns
 unfolding full
 returns c =
-    let u = c.before.args.u in
-    ap (ltb 0) c.user-key-len.ensures ∙ sym (good_user_is longest_user (user_of u) (user_of_length u) (user_of_bytes u (bytes_here c.before)))
+    let u = c.args.u in
+    ap (ltb 0) c.user_key_len-n.ensures ∙ sym (good_user_is longest_user (user_of u) (user_of_length u) (user_of_bytes u (bytes_here c.before)))
 
 pub is_good_user_spec : {M : Type 1} → statement M
 is_good_user_spec = tie.close (tie.spec user-key-len-requires returns)

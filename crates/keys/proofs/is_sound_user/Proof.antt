@@ -9,19 +9,19 @@ use Rattle.keys.specs.Key.{sound, sound_user}
 use Rattle.keys.proofs.is_sound_user.Statement.{statement}
 use Rattle.keys.proofs.is_sound_user.Tie as tie
 
-returns : tie.Need-returns
+returns : tie.Need-returns-then-n-gt-ROOM
 unfolding sound_user sound
-returns c = rw (lt-leb c.before.args.t1.len longest_user c.if1.true)
+returns c = rw (lt-leb c.args.u.len longest_user c.if-n-gt-ROOM.true)
 
-zeros-from-requires : tie.Need-zeros-from-requires
+zeros-from-requires : tie.Need-zeros_from-requires
 zeros-from-requires c κs =
-    let x = c.before.before.before.before.args.t1 in
+    let x = c.args.u in
     let full : length x.bytes ≡ longest_user = search rules in
     (omega arith, omega arith)
 
-returns_2 : tie.Need-returns-2
+returns_2 : tie.Need-returns
 unfolding sound_user sound
-returns_2 c = rw (le-leb c.before.before.before.before.before.args.t1.len longest_user c.before.before.before.before.if1.false) c.zeros-from.ensures
+returns_2 c = rw (le-leb c.args.u.len longest_user c.if-n-gt-ROOM.false) c.zeros_from.ensures
 
 pub is_sound_user_spec : {M : Type 1} → statement M
 is_sound_user_spec = tie.close (tie.spec returns zeros-from-requires returns_2)

@@ -30,45 +30,45 @@ good_at room n q e g h =
     good_is longest_user x (omega arith) (omega arith) b ∙ ap (λ (y : ℕ). leb y 1) k
 
 -- the room's bytes are bytes
-bytes_here : (c : tie.Else1) → are_bytes c.before.before.args.a.now ≡ true
-bytes_here c = bytes_all c.before.before.args.a.now (λ i. omega (arith, c.before.shared-slice-known.given i))
+bytes_here : (c : tie.Else-n-le-TRAILER) → are_bytes c.args.a.now ≡ true
+bytes_here c = bytes_all c.args.a.now (λ i. omega (arith, c.shared_slice_known-1.given i))
 
-returns : tie.Need-returns
+returns : tie.Need-returns-then-n-le-TRAILER
 unfolding full
 returns c =
-    let s = c.before.before.args in
+    let s = c.args in
     rw (too_short longest_user (take s.n s.a.now) (omega (arith, length-take s.n s.a.now))) (sym (and-false (sound key_room s.a.now s.n)))
 
-returns_2 : tie.Need-returns-2
+returns_2 : tie.Need-returns-then-n-gt-ROOM
 unfolding sound
-returns_2 c = rw (lt-leb c.before.before.before.args.n key_room c.if2.true)
+returns_2 c = rw (lt-leb c.args.n key_room c.if-n-gt-ROOM.true)
 
-sub-if3 : tie.Need-overflow-sub-if3
+sub-if3 : tie.Need-overflow_sub-n
 sub-if3 c = search rules
 
-shared-slice-read-if3 : tie.Need-shared-slice-read-if3
+shared-slice-read-if3 : tie.Need-bounds-a-n
 shared-slice-read-if3 c = search rules
 
-returns_3 : tie.Need-returns-3
+returns_3 : tie.Need-returns-then-a-n-gt1
 unfolding full
 returns_3 c =
     let d = c.before.before.before in
-    let s = d.before.before.args in
+    let s = d.args in
     let g : good_key longest_user (take s.n s.a.now) ≡ false =
-    good_at s.a.now s.n (omega arith) (bytes_here d) (omega arith) (omega arith) ∙ lt-leb (get_or s.a.now (s.n - 8) 0) 1 c.if3.true in
+    good_at s.a.now s.n (omega arith) (bytes_here d) (omega arith) (omega arith) ∙ lt-leb (get_or s.a.now (s.n - 8) 0) 1 c.if-a-n-gt1.true in
     rw g (sym (and-false (sound key_room s.a.now s.n)))
 
-zeros-from-requires : tie.Need-zeros-from-requires
+zeros-from-requires : tie.Need-zeros_from-requires
 zeros-from-requires c κs = search rules
 
-returns-4 : tie.Need-returns-4
+returns-4 : tie.Need-returns
 unfolding full sound
 returns-4 c =
     let d = c.before.before.before.before in
-    let s = d.before.before.args in
+    let s = d.args in
     let g : good_key longest_user (take s.n s.a.now) ≡ true =
     good_at s.a.now s.n (omega arith) (bytes_here d) (omega arith) (omega arith) ∙ le-leb (get_or s.a.now (s.n - 8) 0) 1 (omega arith) in
-    rw (g, le-leb s.n key_room (omega arith)) (c.zeros-from.ensures ∙ sym (and_true (all is_zero (drop s.n s.a.now))))
+    rw (g, le-leb s.n key_room (omega arith)) (c.zeros_from.ensures ∙ sym (and_true (all is_zero (drop s.n s.a.now))))
 
 pub is_whole_spec : {M : Type 1} → statement M
 is_whole_spec = tie.close (tie.spec returns returns_2 sub-if3 shared-slice-read-if3 returns_3 zeros-from-requires returns-4)

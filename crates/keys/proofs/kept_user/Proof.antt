@@ -10,45 +10,36 @@ use Rattle.keys.proofs.Laid.{front_laid}
 use Rattle.keys.proofs.kept_user.Statement.{statement}
 use Rattle.keys.proofs.kept_user.Tie as tie
 
-user-key-len-requires : tie.Need-user-key-len-requires
+user-key-len-requires : tie.Need-user_key_len-n-requires
 user-key-len-requires c κs = search rules
 
-sub-copy-into : tie.Need-overflow-sub-copy-into
+sub-copy-into : tie.Need-slice_bounds-copy_into-count
 sub-copy-into c = search rules
 
-part-copy-into-start : tie.Need-slice-bounds-copy-into-start
+part-copy-into-start : tie.Need-slice_bounds-copy_into-start
 part-copy-into-start c = search rules
 
-part-copy-into-end : tie.Need-slice-bounds-copy-into-end
+part-copy-into-end : tie.Need-slice_bounds-copy_into-end
 part-copy-into-end c =
-    let u = c.before.before.before.args.u in
+    let u = c.args.u in
     let full : length u.bytes ≡ longest_user = search rules in
     omega (arith, user_of_length u)
 
-slice-aggregate-copy-into : tie.Need-slice-aggregate-copy-into
+slice-aggregate-copy-into : tie.Need-slice_bounds-copy_into-end-2
 slice-aggregate-copy-into c = search rules
 
-copy-into-requires : tie.Need-copy-into-requires
+copy-into-requires : tie.Need-copy_into-requires
 copy-into-requires c κs = search rules
 
 returns : tie.Need-returns
 unfolding user_record
 returns c =
-    let u = c.before.before.before.before.before.before.before.args.u in
+    let u = c.args.u in
     let full : length u.bytes ≡ longest_user = search rules in
-    let n : c.before.before.before.before.before.before.user-key-len.result ≡ length (user_of u) = c.before.before.before.before.before.before.user-key-len.ensures in
-    let e : c.before.copy-into.new.1.0 ≡ padded longest_user (user_of u) =
-    c.before.copy-into.ensures ∙ front_laid longest_user (user_of u) u.bytes c.before.before.before.before.before.before.user-key-len.result (user_of_length u) (user_of_front u full) n in
+    let n : c.user_key_len-n.result ≡ length (user_of u) = c.user_key_len-n.ensures in
+    let e : c.copy_into.new.out ≡ padded longest_user (user_of u) =
+    c.copy_into.ensures ∙ front_laid longest_user (user_of u) u.bytes c.user_key_len-n.result (user_of_length u) (user_of_front u full) n in
     λ i. record { bytes = e i; len = n i }
 
 pub kept_user_spec : {M : Type 1} → statement M
-kept_user_spec =
-    tie.close
-    (tie.spec
-    user-key-len-requires
-    sub-copy-into
-    part-copy-into-start
-    part-copy-into-end
-    slice-aggregate-copy-into
-    copy-into-requires
-    returns)
+kept_user_spec = tie.close (tie.spec user-key-len-requires sub-copy-into part-copy-into-start part-copy-into-end slice-aggregate-copy-into copy-into-requires returns)

@@ -8,13 +8,13 @@ use Rattle.keys.specs.KeyLaws.{held_len}
 use Rattle.keys.proofs.key_len.Statement.{statement}
 use Rattle.keys.proofs.key_len.Tie as tie
 
-held-len-requires : tie.Need-held-len-requires
+held-len-requires : tie.Need-held_len-requires
 held-len-requires c κs = search rules
 
 returns : tie.Need-returns
 unfolding key_of
 returns c =
-    let k = c.before.args.k in
+    let k = c.args.k in
     let full : length k.bytes ≡ key_room = search rules in
     c.held_len.ensures ∙ held_len key_room k.bytes k.len full
 

@@ -15,42 +15,35 @@ use Rattle.keys.specs.KeyLaws.{key_of_length, key_of_bytes, key_of_at, user_leng
 use Rattle.keys.proofs.kind.Statement.{statement}
 use Rattle.keys.proofs.kind.Tie as tie
 
-key-len-requires : tie.Need-key-len-requires
+key-len-requires : tie.Need-key_len-n-requires
 key-len-requires c κs = search rules
 
 -- the record's bytes are bytes
-bytes_here : (c : tie.Start) → are_bytes c.args.t1.bytes ≡ true
-bytes_here c = bytes_all c.args.t1.bytes (λ i. let f : Fits w8 (get_or c.args.t1.bytes i 0) = search rules in f.fits)
+bytes_here : (c : tie.Start) → are_bytes c.args.k.bytes ≡ true
+bytes_here c = bytes_all c.args.k.bytes (λ i. let f : Fits w8 (get_or c.args.k.bytes i 0) = search rules in f.fits)
 
-returns : tie.Need-returns
-returns c = sym (kind_none (key_of c.before.before.args.t1) (omega arith))
+returns : tie.Need-returns-then-n-eq0
+returns c = sym (kind_none (key_of c.args.k) (omega arith))
 
-user-len-requires : tie.Need-user-len-requires
+user-len-requires : tie.Need-user_len-at-requires
 user-len-requires c κs = search rules
 
 byte-requires : tie.Need-byte-requires
 byte-requires c κs =
-    let k = c.before.before.before.before.before.before.args.t1 in
+    let k = c.args.k in
     let full : length k.bytes ≡ key_room = search rules in
     (omega (arith, user_length (key_of k), key_of_length k), omega arith)
 
-returns_2 : tie.Need-returns-2
+returns_2 : tie.Need-returns
 returns_2 c =
-    let u = c.before.before.before.before in
-    let s = u.before.before.before in
-    let k = s.args.t1 in
+    let u = c in
+    let s = u.before.before.before.before.before.before in
+    let k = s.args.k in
     let full : length k.bytes ≡ key_room = search rules in
-    let at : u.user-len.result ≡ length (key_of k) - 8 = omega (arith, user_length (key_of k)) in
+    let at : u.user_len-at.result ≡ length (key_of k) - 8 = omega (arith, user_length (key_of k)) in
     let some : 0 < length (key_of k) = omega arith in
     c.byte.ensures ∙ ap (λ (i : ℕ). get_or k.bytes i 0) at
     ∙ sym (kind_at (key_of k) (key_of_bytes k (bytes_here s)) some ∙ key_of_at k full (length (key_of k) - 8) (omega arith))
 
 pub kind_spec : {M : Type 1} → statement M
-kind_spec =
-    tie.close
-    (tie.spec
-    key-len-requires
-    returns
-    user-len-requires
-    byte-requires
-    returns_2)
+kind_spec = tie.close (tie.spec key-len-requires returns user-len-requires byte-requires returns_2)

@@ -11,34 +11,28 @@ use Rattle.keys.proofs.Fronts.{users_order}
 use Rattle.keys.proofs.order_of_user.Statement.{statement}
 use Rattle.keys.proofs.order_of_user.Tie as tie
 
-user-key-len-requires : tie.Need-user-key-len-requires
+user-key-len-requires : tie.Need-user_key_len-m-requires
 user-key-len-requires c κs = search rules
 
-user-len-requires : tie.Need-user-len-requires
+user-len-requires : tie.Need-user_len-n-requires
 user-len-requires c κs = search rules
 
-order-of-requires : tie.Need-order-of-requires
+order-of-requires : tie.Need-order_of-requires
 order-of-requires c κs =
-    let s = c.before.before.before.before.before.before.before.before.args in
-    let full_u : length s.t1.bytes ≡ longest_user = search rules in
-    let full_k : length s.t2.bytes ≡ key_room = search rules in
-    (omega (arith, user_of_length s.t1), omega arith, omega (arith, user_short s.t2), omega arith)
+    let s = c.args in
+    let full_u : length s.u.bytes ≡ longest_user = search rules in
+    let full_k : length s.k.bytes ≡ key_room = search rules in
+    (omega (arith, user_of_length s.u), omega arith, omega (arith, user_short s.k), omega arith)
 
 returns : tie.Need-returns
 returns c =
-    let q = c.before.before.before.before.before.before.before in
-    let p = q.before in
-    let u = p.before.args.t1 in
-    let k = p.before.args.t2 in
+    let q = c in
+    let p = q in
+    let u = p.args.u in
+    let k = p.args.k in
     let full_u : length u.bytes ≡ longest_user = search rules in
     let full_k : length k.bytes ≡ key_room = search rules in
-    users_order (user_of u) (model.user (key_of k)) u.bytes k.bytes p.user-key-len.result q.user-len.result (user_of_front u full_u) p.user-key-len.ensures (user_front k full_k) q.user-len.ensures c.order-of.result c.order-of.ensures
+    users_order (user_of u) (model.user (key_of k)) u.bytes k.bytes p.user_key_len-m.result q.user_len-n.result (user_of_front u full_u) p.user_key_len-m.ensures (user_front k full_k) q.user_len-n.ensures c.order_of.result c.order_of.ensures
 
 pub order_of_user_spec : {M : Type 1} → statement M
-order_of_user_spec =
-    tie.close
-    (tie.spec
-    user-key-len-requires
-    user-len-requires
-    order-of-requires
-    returns)
+order_of_user_spec = tie.close (tie.spec user-key-len-requires user-len-requires order-of-requires returns)

@@ -10,34 +10,28 @@ use Rattle.keys.proofs.Fronts.{users_order}
 use Rattle.keys.proofs.order_of_user_keys.Statement.{statement}
 use Rattle.keys.proofs.order_of_user_keys.Tie as tie
 
-user-key-len-requires : tie.Need-user-key-len-requires
+user-key-len-requires : tie.Need-user_key_len-m-requires
 user-key-len-requires c κs = search rules
 
-user-key-len-requires-2 : tie.Need-user-key-len-requires-2
+user-key-len-requires-2 : tie.Need-user_key_len-n-requires
 user-key-len-requires-2 c κs = search rules
 
-order-of-requires : tie.Need-order-of-requires
+order-of-requires : tie.Need-order_of-requires
 order-of-requires c κs =
-    let s = c.before.before.before.before.before.before.before.before.args in
-    let full_u : length s.t1.bytes ≡ longest_user = search rules in
-    let full_v : length s.t2.bytes ≡ longest_user = search rules in
-    (omega (arith, user_of_length s.t1), omega arith, omega (arith, user_of_length s.t2), omega arith)
+    let s = c.args in
+    let full_u : length s.u.bytes ≡ longest_user = search rules in
+    let full_v : length s.v.bytes ≡ longest_user = search rules in
+    (omega (arith, user_of_length s.u), omega arith, omega (arith, user_of_length s.v), omega arith)
 
 returns : tie.Need-returns
 returns c =
-    let q = c.before.before.before.before.before.before.before in
-    let p = q.before in
-    let u = p.before.args.t1 in
-    let v = p.before.args.t2 in
+    let q = c in
+    let p = q in
+    let u = p.args.u in
+    let v = p.args.v in
     let full_u : length u.bytes ≡ longest_user = search rules in
     let full_v : length v.bytes ≡ longest_user = search rules in
-    users_order (user_of u) (user_of v) u.bytes v.bytes p.user-key-len.result q.user-key-len2.result (user_of_front u full_u) p.user-key-len.ensures (user_of_front v full_v) q.user-key-len2.ensures c.order-of.result c.order-of.ensures
+    users_order (user_of u) (user_of v) u.bytes v.bytes p.user_key_len-m.result q.user_key_len-n.result (user_of_front u full_u) p.user_key_len-m.ensures (user_of_front v full_v) q.user_key_len-n.ensures c.order_of.result c.order_of.ensures
 
 pub order_of_user_keys_spec : {M : Type 1} → statement M
-order_of_user_keys_spec =
-    tie.close
-    (tie.spec
-    user-key-len-requires
-    user-key-len-requires-2
-    order-of-requires
-    returns)
+order_of_user_keys_spec = tie.close (tie.spec user-key-len-requires user-key-len-requires-2 order-of-requires returns)

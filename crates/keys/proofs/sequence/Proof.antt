@@ -10,21 +10,21 @@ use Rattle.keys.specs.KeyLaws.{key_of_length, key_of_front}
 use Rattle.keys.proofs.sequence.Statement.{statement}
 use Rattle.keys.proofs.sequence.Tie as tie
 
-key-len-requires : tie.Need-key-len-requires
+key-len-requires : tie.Need-key_len-n-requires
 key-len-requires c κs = search rules
 
-sequence-of-requires : tie.Need-sequence-of-requires
+sequence-of-requires : tie.Need-sequence_of-requires
 sequence-of-requires c κs =
-    let k = c.before.before.before.before.args.t1 in
+    let k = c.args.k in
     let full : length k.bytes ≡ key_room = search rules in
     omega (arith, key_of_length k)
 
 returns : tie.Need-returns
 returns c =
-    let p = c.before.before.before.before in
-    let k = p.before.args.t1 in
+    let p = c in
+    let k = p.args.k in
     let full : length k.bytes ≡ key_room = search rules in
-    rw (← front_taken (key_of k) k.bytes p.key-len.result (key_of_front k full) p.key-len.ensures) c.sequence-of.ensures
+    rw (← front_taken (key_of k) k.bytes p.key_len-n.result (key_of_front k full) p.key_len-n.ensures) c.sequence_of.ensures
 
 pub sequence_spec : {M : Type 1} → statement M
 sequence_spec = tie.close (tie.spec key-len-requires sequence-of-requires returns)

@@ -11,45 +11,36 @@ use Rattle.keys.proofs.Laid.{front_laid}
 use Rattle.keys.proofs.user_key.Statement.{statement}
 use Rattle.keys.proofs.user_key.Tie as tie
 
-user-len-requires : tie.Need-user-len-requires
+user-len-requires : tie.Need-user_len-n-requires
 user-len-requires c κs = search rules
 
-sub-copy-into : tie.Need-overflow-sub-copy-into
+sub-copy-into : tie.Need-slice_bounds-copy_into-count
 sub-copy-into c = search rules
 
-part-copy-into-start : tie.Need-slice-bounds-copy-into-start
+part-copy-into-start : tie.Need-slice_bounds-copy_into-start
 part-copy-into-start c = search rules
 
-part-copy-into-end : tie.Need-slice-bounds-copy-into-end
+part-copy-into-end : tie.Need-slice_bounds-copy_into-end
 part-copy-into-end c =
-    let k = c.before.before.before.args.k in
+    let k = c.args.k in
     let full : length k.bytes ≡ key_room = search rules in
     omega (arith, user_short k)
 
-slice-aggregate-copy-into : tie.Need-slice-aggregate-copy-into
+slice-aggregate-copy-into : tie.Need-slice_bounds-copy_into-end-2
 slice-aggregate-copy-into c = search rules
 
-copy-into-requires : tie.Need-copy-into-requires
+copy-into-requires : tie.Need-copy_into-requires
 copy-into-requires c κs = search rules
 
 returns : tie.Need-returns
 unfolding user_record
 returns c =
-    let k = c.before.before.before.before.before.before.before.args.k in
+    let k = c.args.k in
     let full : length k.bytes ≡ key_room = search rules in
-    let n : c.before.before.before.before.before.before.user-len.result ≡ length (model.user (key_of k)) = c.before.before.before.before.before.before.user-len.ensures in
-    let e : c.before.copy-into.new.1.0 ≡ padded longest_user (model.user (key_of k)) =
-    c.before.copy-into.ensures ∙ front_laid longest_user (model.user (key_of k)) k.bytes c.before.before.before.before.before.before.user-len.result (user_short k) (user_front k full) n in
+    let n : c.user_len-n.result ≡ length (model.user (key_of k)) = c.user_len-n.ensures in
+    let e : c.copy_into.new.out ≡ padded longest_user (model.user (key_of k)) =
+    c.copy_into.ensures ∙ front_laid longest_user (model.user (key_of k)) k.bytes c.user_len-n.result (user_short k) (user_front k full) n in
     λ i. record { bytes = e i; len = n i }
 
 pub user_key_spec : {M : Type 1} → statement M
-user_key_spec =
-    tie.close
-    (tie.spec
-    user-len-requires
-    sub-copy-into
-    part-copy-into-start
-    part-copy-into-end
-    slice-aggregate-copy-into
-    copy-into-requires
-    returns)
+user_key_spec = tie.close (tie.spec user-len-requires sub-copy-into part-copy-into-start part-copy-into-end slice-aggregate-copy-into copy-into-requires returns)

@@ -8,16 +8,16 @@ use Rattle.keys.specs.Key.{user_of}
 use Rattle.keys.proofs.user_key_is_before.Statement.{statement}
 use Rattle.keys.proofs.user_key_is_before.Tie as tie
 
-order-of-user-keys-requires : tie.Need-order-of-user-keys-requires
+order-of-user-keys-requires : tie.Need-order_of_user_keys-requires
 order-of-user-keys-requires c κs = search rules
 
-is-less-requires : tie.Need-is-less-requires
+is-less-requires : tie.Need-is_less-requires
 is-less-requires c κs = search rules
 
 returns : tie.Need-returns
 returns c =
-    let s = c.before.before in
-    c.is-less.ensures ∙ ap less c.before.order-of-user-keys.ensures ∙ less_standing model.user_before (user_of s.args.u) (user_of s.args.v)
+    let s = c in
+    c.is_less.ensures ∙ ap less c.order_of_user_keys.ensures ∙ less_standing model.user_before (user_of s.args.u) (user_of s.args.v)
 
 pub user_key_is_before_spec : {M : Type 1} → statement M
 user_key_is_before_spec = tie.close (tie.spec order-of-user-keys-requires is-less-requires returns)

@@ -8,13 +8,13 @@ use Rattle.keys.specs.KeyLaws.{held_len}
 use Rattle.keys.proofs.user_key_len.Statement.{statement}
 use Rattle.keys.proofs.user_key_len.Tie as tie
 
-held-len-requires : tie.Need-held-len-requires
+held-len-requires : tie.Need-held_len-requires
 held-len-requires c κs = search rules
 
 returns : tie.Need-returns
 unfolding user_of
 returns c =
-    let u = c.before.args.u in
+    let u = c.args.u in
     let full : length u.bytes ≡ longest_user = search rules in
     c.held_len.ensures ∙ held_len longest_user u.bytes u.len full
 

@@ -10,18 +10,18 @@ use Rattle.octets.proofs.front.Tie as tie
 lesser-requires : tie.Need-lesser-requires
 lesser-requires c κs = search rules
 
-mul-result : tie.Need-overflow-mul-result
+mul-result : tie.Need-overflow_mul-result
 mul-result c = search rules
 
-sub-result : tie.Need-overflow-sub-result
+sub-result : tie.Need-overflow_sub-result
 sub-result c = search rules
 
-shr-result : tie.Need-overflow-shr-result
+shr-result : tie.Need-overflow_shr-result
 shr-result c = search rules
 
 returns : tie.Need-returns
 returns c =
-    let a = c.before.args in
+    let a = c.args in
     let bits : 64 - 8 * c.lesser.result ≡ 8 * (8 - a.c) = omega arith in
     ap (λ (n : ℕ). a.x / n) (ap (λ (n : ℕ). 2 ^ n) bits ∙ byte_bits (8 - a.c))
 

@@ -12,17 +12,17 @@ use Rattle.octets.proofs.word.Tie as tie
 half-requires : tie.Need-half-requires
 half-requires c κs = omega arith
 
-mul-result : tie.Need-overflow-mul-result
+mul-result : tie.Need-overflow_mul-result
 mul-result c = omega (arith, c.half.ensures.1)
 
-add_half : tie.Need-overflow-add-half
+add_half : tie.Need-overflow_add-at
 add_half c = omega arith
 
 half-requires-2 : tie.Need-half-requires-2
 half-requires-2 c κs = omega arith
 
-add-result : tie.Need-overflow-add-result
-add-result c = omega (arith, c.before.half.ensures.1, c.half2.ensures.1)
+add-result : tie.Need-overflow_add-result
+add-result c = omega (arith, c.half.ensures.1, c.half-2.ensures.1)
 
 -- eight bytes are four and four
 eight : (x : List ℕ) → take 8 x ≡ take 4 x ++ take 4 (drop 4 x)
@@ -41,9 +41,9 @@ halves a at h =
 
 returns : tie.Need-returns
 returns c =
-    let h = c.before in
-    let a = h.before.before.args in
-    rw (h.half.ensures.0, c.half2.ensures.0) (sym (halves a.a.now a.at (omega arith)))
+    let h = c in
+    let a = h.args in
+    rw (h.half.ensures.0, c.half-2.ensures.0) (sym (halves a.a.now a.at (omega arith)))
 
 pub word_spec : {M : Type 1} → statement M
 word_spec = tie.close (tie.spec half-requires mul-result add_half half-requires-2 add-result returns)
