@@ -9,7 +9,7 @@ use Rattle.std.proofs.lemmas.List.{length-map}
 use Rattle.lemmas.specs.Bisect.{bisect, met, fuel, turn_up, turn_down, bisect_list}
 use Rattle.lemmas.specs.Loops.{before_first}
 use Rattle.lemmas.specs.Maps.{first_map}
-use Rattle.lemmas.specs.Slices.{get_d_map}
+use Rattle.lemmas.specs.Slices.{get_or_map}
 use Rattle.model.specs.Key.{before}
 use Rattle.model.specs.KeyLaws.{before_order}
 use Rattle.model.specs.File.{File, full, apart}
@@ -91,7 +91,7 @@ halved_passed k rs d =
         let below : i < length rs = omega arith in
         let rise = ends_rise (map file_of rs) (λ f m. good_file_order full f (d.good f m)) d.apart i (i + 1) (file_of past) (omega arith) (omega (arith, length-map rs file_of)) in
         before_order.trans (file_of (get_or rs i past)).largest (file_of (get_or rs (i + 1) past)).largest k
-        (rw (get_d_map file_of rs i past (file_of past) below, get_d_map file_of rs (i + 1) past (file_of past) h) at rise) e
+        (rw (get_or_map file_of rs i past (file_of past) below, get_or_map file_of rs (i + 1) past (file_of past) h) at rise) e
 
 -- ---- file by file
 

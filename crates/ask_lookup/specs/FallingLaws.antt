@@ -17,7 +17,7 @@ use Rattle.lemmas.specs.Laying.{sorted_places}
 use Rattle.lemmas.specs.Loops.{view_laid, view_all_laid}
 use Rattle.lemmas.specs.Maps.{sort_map, sort_same_in}
 use Rattle.lemmas.specs.Merge.{front_laid, all_sort, all_at}
-use Rattle.lemmas.specs.Slices.{put, put_put, get_d_map, in_front, rest_cons}
+use Rattle.lemmas.specs.Slices.{put, put_put, get_or_map, in_front, rest_cons}
 use Rattle.lemmas.specs.UpFrom.{up_from_length, up_from_below}
 use Rattle.model.specs.File.{max_files, max_word}
 use Rattle.sorting.specs.Sorting.{by_number_at}
@@ -54,7 +54,7 @@ module _ (ns zeros order : List ℕ) (e : order ≡ put zeros 0 (sort (by_number
       let front = take (length ns) order in
       let long : length front ≡ length ns = sym (length-map front (λ i. get_or ns i 0)) ∙ ap length rising_is ∙ sort_length ltb ns in
       let below : j < length front = omega arith in
-      sym (ap (λ (p : ℕ). get_or ns p 0) (in_front (length ns) order j 0 below)) ∙ sym (get_d_map (λ i. get_or ns i 0) front j 0 0 below) ∙ ap (λ (l : List ℕ). get_or l j 0) rising_is
+      sym (ap (λ (p : ℕ). get_or ns p 0) (in_front (length ns) order j 0 below)) ∙ sym (get_or_map (λ i. get_or ns i 0) front j 0 0 below) ∙ ap (λ (l : List ℕ). get_or l j 0) rising_is
 
 -- ---- falling
 

@@ -14,7 +14,7 @@ use Rattle.lemmas.specs.ListLaws.{both, keep_length}
 use Rattle.lemmas.specs.Loops.{keep_map_kept, keep_map_passed, keep_map_ended}
 use Rattle.lemmas.specs.Merge.{front_laid}
 use Rattle.lemmas.specs.Order.{clash}
-use Rattle.lemmas.specs.Slices.{put, put_cons, put_nil, put_front, length_put, length_view, at_view, get_d_map}
+use Rattle.lemmas.specs.Slices.{put, put_cons, put_nil, put_front, length_put, length_view, at_view, get_or_map}
 use Rattle.model.specs.Answer.{Answer, gives, refused, Refusal, ◌⇒◌, first_of, on_answer, lent}
 use Rattle.model.specs.Key.{user_before, user, good_key}
 use Rattle.model.specs.File.{File, full, numbers, level_count, max_files, max_word}
@@ -286,7 +286,7 @@ module _ (k : List ℕ) (rs : List FileRecord) where
       → cond (user_before (user k) (user (file_of (get_or rs at past)).smallest)) [] ((file_of (get_or rs at past)).number ∷ []) ≡ candidate k (map file_of rs)
   candidate_at at e h =
       let fs = map file_of rs in
-      let here : get_or fs (passed k fs) (file_of past) ≡ file_of (get_or rs at past) = ap (λ (i : ℕ). get_or fs i (file_of past)) (sym e) ∙ get_d_map file_of rs at past (file_of past) h in
+      let here : get_or fs (passed k fs) (file_of past) ≡ file_of (get_or rs at past) = ap (λ (i : ℕ). get_or fs i (file_of past)) (sym e) ∙ get_or_map file_of rs at past (file_of past) h in
       let below : passed k fs < length fs = omega (arith, length-map rs file_of) in
       ap (λ (f : File). cond (user_before (user k) (user f.smallest)) [] (f.number ∷ [])) (sym here) ∙ go (user_before (user k) (user (get_or fs (passed k fs) (file_of past)).smallest)) refl below
     where

@@ -10,7 +10,7 @@ use Rattle.std.proofs.Math.ListN.{get_or}
 use Rattle.std.proofs.lemmas.List.{length-map}
 use Rattle.lemmas.specs.Lists.{join, sum, up_from}
 use Rattle.lemmas.specs.ListLaws.{all_in, sub_in, up_from_in, in_replicate}
-use Rattle.lemmas.specs.Slices.{put, put_front, put_parts, parts, parts_map, join_parts, drop_replicate, get_d_map}
+use Rattle.lemmas.specs.Slices.{put, put_front, put_parts, parts, parts_map, join_parts, drop_replicate, get_or_map}
 use Rattle.lemmas.specs.UpFrom.{up_from_length, up_from_whole}
 use Rattle.lemmas.specs.Maps.{map_same_in, keep_map, keep_same, join_map}
 use Rattle.lemmas.specs.Merge.{all_at, all_both}
@@ -79,7 +79,7 @@ lengths_at files (ps ∷ ls) = cc (records_length files ps, lengths_at files ls)
 -- the record of the place at i
 pub record_at : (files : List FileRecord) (ps : List ℕ) (i : ℕ) → i < length ps → get_or (records_at files ps) i past ≡ get_or files (get_or ps i 0) past
 unfolding records_at
-record_at files ps i h = get_d_map (λ p. get_or files p past) ps i 0 past h
+record_at files ps i h = get_or_map (λ p. get_or files p past) ps i 0 past h
 
 -- levels of places written to an array and cut again
 pub laid_records : (files : List FileRecord) (v : List ℕ) (ls : List (List ℕ)) → parts (records_at files (put v 0 (join ls))) (map length ls) ≡ map (records_at files) ls
@@ -120,7 +120,7 @@ module _ (files : List FileRecord) (counts column : List ℕ) (test : ℕ → �
   -- the number at a place is that of the record there
   number_there : (p : ℕ) → In p (join (places_of counts)) → number_at column p ≡ (get_or files p past).number.0
   number_there p i =
-      ap (λ (c : List ℕ). get_or c p 0) numbers ∙ ListN.get_d_map (λ (r : FileRecord). r.number.0) (take (sum counts) files) p past
+      ap (λ (c : List ℕ). get_or c p 0) numbers ∙ ListN.get_or-map (λ (r : FileRecord). r.number.0) (take (sum counts) files) p past
       ∙ ap (λ (r : FileRecord). r.number.0) (get_or-take (sum counts) files p past (places_below counts room p i))
 
   -- the records there are those that stay

@@ -416,10 +416,10 @@ sum_next k l = rw add-one (go k l)
 
 module _ {A B : Type 0} (f : A → B) where
   -- the element at a place of a mapped list, whatever is read past its end
-  pub get_d_map : (l : List A) (i : ℕ) (d : A) (z : B) → i < length l → get_or (map f l) i z ≡ f (get_or l i d)
-  get_d_map [] i d z h = absurd (not-suc-le-zero h)
-  get_d_map (x ∷ l) zero d z h = refl
-  get_d_map (x ∷ l) (suc i) d z h = get_d_map l i d z (le_of_suc-le-suc h)
+  pub get_or_map : (l : List A) (i : ℕ) (d : A) (z : B) → i < length l → get_or (map f l) i z ≡ f (get_or l i d)
+  get_or_map [] i d z h = absurd (not-suc-le-zero h)
+  get_or_map (x ∷ l) zero d z h = refl
+  get_or_map (x ∷ l) (suc i) d z h = get_or_map l i d z (le_of_suc-le-suc h)
 
   -- the first n of a mapped list
   pub take_map : (n : ℕ) (l : List A) → take n (map f l) ≡ map f (take n l)
@@ -454,7 +454,7 @@ module _ {A B : Type 0} (f : A → B) where
     pub at_view : (k : ℕ) (d : A) (z : B) → i + k < e → e ≤ length l → get_or (map f (slice i e l)) k z ≡ f (get_or l (i + k) d)
     at_view k d z h g =
         let n : k < length (slice i e l) = omega (arith, length-slice i e l g) in
-        get_d_map (slice i e l) k d z n ∙ ap f (at_run i e l k d h)
+        get_or_map (slice i e l) k d z n ∙ ap f (at_run i e l k d h)
 
   -- writing over a list, mapped
   pub put_map : (d : List A) (at : ℕ) (s : List A) → map f (put d at s) ≡ put (map f d) at (map f s)

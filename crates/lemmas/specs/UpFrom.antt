@@ -5,7 +5,7 @@ use Rattle.std.proofs.lemmas.List.{length-map}
 use Rattle.std.proofs.Math.Seq.{take-length}
 use Rattle.lemmas.specs.Lists.{all, up_from}
 use Rattle.lemmas.specs.ListLaws.{both}
-use Rattle.lemmas.specs.Slices.{put, put_cons, put_nil, get_d_map}
+use Rattle.lemmas.specs.Slices.{put, put_cons, put_nil, get_or_map}
 
 -- ---- a loop that counts from k up to w
 -- a turn: k is next
@@ -78,7 +78,7 @@ module _ {A : Type 0} (g : ℕ → A) where
   made_at n i z h =
       let l : i < length (up_from 0 n) = rw (up_from_length 0 n) h in
       let e : get_or (up_from 0 n) i 0 ≡ i = omega (arith, up_from_at 0 n i 0 h) in
-      get_d_map g (up_from 0 n) i 0 z l ∙ ap g e
+      get_or_map g (up_from 0 n) i 0 z l ∙ ap g e
 
   -- a list whose item at each place is made of that number
   pub made_of : (n : ℕ) (z : A) (xs : List A) → length xs ≡ n → ((i : ℕ) → i < n → get_or xs i z ≡ g i) → xs ≡ map g (up_from 0 n)

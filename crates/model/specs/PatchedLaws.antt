@@ -17,7 +17,7 @@ use Rattle.std.proofs.lemmas.List.{length-map}
 use Rattle.lemmas.specs.Order.{clash}
 use Rattle.lemmas.specs.Lists.{push, keep, any, sort, chain, join, up_from, distinct}
 use Rattle.lemmas.specs.ListLaws.{any_in, keep_in, sort_in}
-use Rattle.lemmas.specs.Slices.{get_d_map}
+use Rattle.lemmas.specs.Slices.{get_or_map}
 use Rattle.lemmas.specs.Maps.{of_join_map, map_same}
 use Rattle.lemmas.specs.UpFrom.{made_of, made_at}
 use Rattle.lemmas.specs.Once.{Once, in_any, in_join_map, once_keep, once_append, once_join, once_distinct, distinct_once, strict_once, once_one}
@@ -270,7 +270,7 @@ module _ (p : Profile) (s t : State) (ws : WF p s) (wt : WF p t) where
   files_right : (patched s (differences s t)).files ≡ (as_read t).files
   unfolding patched as_read level
   files_right = sym (made_of (λ l. patched_level (differences s t) l (level s l)) (length s.files) [] (map in_read_order t.files) (length-map t.files in_read_order ∙ wt.levels ∙ sym ws.levels)
-      (λ l h. get_d_map in_read_order t.files l [] [] (omega (arith, ws.levels, wt.levels)) ∙ sym (level_read p s t ws wt l)))
+      (λ l h. get_or_map in_read_order t.files l [] [] (omega (arith, ws.levels, wt.levels)) ∙ sym (level_read p s t ws wt l)))
 
   -- the pointers
   pointers_right : (patched s (differences s t)).pointers ≡ (as_read t).pointers

@@ -16,7 +16,7 @@ use Rattle.lemmas.specs.Lists.{find, sum, up_from}
 use Rattle.lemmas.specs.ListLaws.{find_some, up_from_in}
 use Rattle.lemmas.specs.Loops.{find_here, find_later}
 use Rattle.lemmas.specs.Maps.{find_map}
-use Rattle.lemmas.specs.Slices.{get_d_map, take_drop}
+use Rattle.lemmas.specs.Slices.{get_or_map, take_drop}
 use Rattle.lemmas.specs.UpFrom.{up_from_turn, up_from_end, up_from_run}
 use Rattle.model.specs.Key.{Key, before}
 use Rattle.model.specs.File.{File, level, pointer, level_count, max_files}
@@ -159,7 +159,7 @@ unfolding start_in pointer state_of
 start_file_lem s n c p =
     start_is (pointer_of (get_or s.pointers n pastPointer)) (start_at s n) (end_at s n) s.files
     ∙ ap (λ (fs : List File). start_file (pointer_of (get_or s.pointers n pastPointer)) fs) (sym (level_run_lem s n c))
-    ∙ ap (λ (o : Option Key). start_file o (level (state_of s) n)) (sym (get_d_map pointer_of s.pointers n pastPointer none p))
+    ∙ ap (λ (o : Option Key). start_file o (level (state_of s) n)) (sym (get_or_map pointer_of s.pointers n pastPointer none p))
 
 -- ---- the place, step by step
 -- after the first place is seen, the places that are left give the same answer

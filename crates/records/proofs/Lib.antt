@@ -1,4 +1,2 @@
-pub mod Arrays
 pub mod Places
 pub mod Shape
-pub mod Steps

@@ -5,7 +5,7 @@ use mathlib.Core.List.{map}
 use native.Mathlib.Omega.{arith}
 use borrow.Author.Rules.{rules}
 use lib.ListN.{length, get_or, drop, set, length-set, length-map}
-use Rattle.lemmas.specs.Slices.{put, get_d_map, length_of_map}
+use Rattle.lemmas.specs.Slices.{put, get_or_map, length_of_map}
 use Rattle.lemmas.specs.Merge.{lay_starts, lay_turn, lay_ended}
 use Rattle.model.specs.File.{max_deletions}
 use Rattle.edit.specs.EditLaws.{past_deletion}
@@ -57,7 +57,7 @@ loop-again c =
     let ds = map (deletion_at a.level) a.numbers.now in
     let size = length-map a.numbers.now (deletion_at a.level) in
     let x : Deletion = deletion_at a.level (get_or a.numbers.now o.i 0) in
-    let at : get_or ds o.i past_deletion ≡ x = get_d_map (deletion_at a.level) a.numbers.now o.i 0 past_deletion (omega arith) in (
+    let at : get_or ds o.i past_deletion ≡ x = get_or_map (deletion_at a.level) a.numbers.now o.i 0 past_deletion (omega arith) in (
       omega arith,
       length-set o.deletions (a.at + o.i) x ∙ o.invariant.1,
       ap (λ (d : Deletion). put (set o.deletions (a.at + o.i) d) (a.at + (o.i + 1)) (drop (o.i + 1) ds)) (sym at)

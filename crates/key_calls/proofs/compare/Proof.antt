@@ -13,60 +13,59 @@ use Rattle.octets.specs.StandingLaws.{standing_less, standing_equal, standing_gr
 use Rattle.key_calls.proofs.compare.Statement.{statement}
 use Rattle.key_calls.proofs.compare.Tie as tie
 
-is-good-requires : tie.Need-is-good-requires
+is-good-requires : tie.Need-is_good-requires
 is-good-requires c κs = search rules
 
-returns : tie.Need-returns
+returns : tie.Need-returns-then-not-is_good
 unfolding compared_of compare_keys first_of ◌⇒◌
-returns c = rw (sym c.before.is-good.ensures ∙ not-true _ c.if1.true)
+returns c = rw (sym c.is_good.ensures ∙ c.if-not-is_good.true)
 
-is-good-requires-2 : tie.Need-is-good-requires-2
+is-good-requires-2 : tie.Need-is_good-requires-2
 is-good-requires-2 c κs = search rules
 
 -- the first key is one
-first_good : (c : tie.Else1) → good_key full.longest (key_of c.before.before.args.a) ≡ true
-first_good c = sym c.before.is-good.ensures ∙ not-false _ c.if1.false
+first_good : (c : tie.Else-not-is_good) → good_key full.longest (key_of c.args.a) ≡ true
+first_good c = sym c.is_good.ensures ∙ c.if-not-is_good.false
 
-returns_2 : tie.Need-returns-2
+returns_2 : tie.Need-returns-then-not-is_good-2
 unfolding compared_of compare_keys first_of ◌⇒◌
-returns_2 c = rw (first_good c.before.before, sym c.before.is-good2.ensures ∙ not-true _ c.if2.true)
+returns_2 c = rw (first_good c.before.before, sym c.is_good-2.ensures ∙ c.if-not-is_good-2.true)
 
-order-of-keys-requires : tie.Need-order-of-keys-requires
+order-of-keys-requires : tie.Need-order_of_keys-o-requires
 order-of-keys-requires c κs = search rules
 
-enum_told : tie.Need-enum-told
+enum_told : tie.Need-enum_told-1
 enum_told c = search rules
 
-enum-told-2 : tie.Need-enum-told-2
+enum-told-2 : tie.Need-enum_told-in-Equal
 enum-told-2 c = search rules
 
-enum-told-3 : tie.Need-enum-told-3
+enum-told-3 : tie.Need-enum_told-in-Greater
 enum-told-3 c = search rules
 
 -- the second key is one
-second_good : (c : tie.Else2) → good_key full.longest (key_of c.before.before.before.before.args.b) ≡ true
-second_good c = sym c.before.is-good2.ensures ∙ not-false _ c.if2.false
+second_good : (c : tie.Else-not-is_good-2) → good_key full.longest (key_of c.args.b) ≡ true
+second_good c = sym c.is_good-2.ensures ∙ c.if-not-is_good-2.false
 
-returns_3 : tie.Need-returns-3
+returns_3 : tie.Need-returns-in-Less
 unfolding compared_of compare_keys first_of ◌⇒◌ stands
 returns_3 c =
-    let e = c.before.before.before in
-    rw (first_good e.before.before, second_good e, standing_less before _ _ (sym c.before.before.order-of-keys.ensures ∙ c.enum_told.given.1))
+    let e = c.before.before in
+    rw (first_good e.before.before, second_good e, standing_less before _ _ (sym c.order_of_keys-o.ensures ∙ c.in-Less.is))
 
-returns-4 : tie.Need-returns-4
+returns-4 : tie.Need-returns-in-Equal
 unfolding compared_of compare_keys first_of ◌⇒◌ stands
 returns-4 c =
-    let e = c.before.before.before in
-    let h = standing_equal before _ _ (sym c.before.before.order-of-keys.ensures ∙ c.enum-told2.given.1) in
+    let e = c.before.before in
+    let h = standing_equal before _ _ (sym c.order_of_keys-o.ensures ∙ c.in-Equal.is) in
     rw (first_good e.before.before, second_good e, h.0, h.1)
 
-returns-5 : tie.Need-returns-5
+returns-5 : tie.Need-returns-in-Greater
 unfolding compared_of compare_keys first_of ◌⇒◌ stands
 returns-5 c =
-    let e = c.before.before.before in
-    let h = standing_greater before _ _ (sym c.before.before.order-of-keys.ensures ∙ c.enum-told3.given.1) in
+    let e = c.before.before in
+    let h = standing_greater before _ _ (sym c.order_of_keys-o.ensures ∙ c.in-Greater.is) in
     rw (first_good e.before.before, second_good e, h.0, h.1)
 
 pub compare_spec : {M : Type 1} → statement M
-compare_spec =
-    tie.close (tie.spec is-good-requires returns is-good-requires-2 returns_2 order-of-keys-requires enum_told enum-told-2 enum-told-3 returns_3 returns-4 returns-5)
+compare_spec = tie.close (tie.spec is-good-requires returns is-good-requires-2 returns_2 order-of-keys-requires enum_told enum-told-2 enum-told-3 returns_3 returns-4 returns-5)

@@ -4,11 +4,11 @@ use Rattle.model.specs.File.{seeks}
 use Rattle.records.proofs.allowed_seeks.Statement.{statement}
 use Rattle.records.proofs.allowed_seeks.Tie as tie
 
-returns : tie.Need-returns
+returns : tie.Need-returns-then-n-lt-LEAST_SEEKS
 unfolding seeks
 returns c = omega arith
 
-returns_2 : tie.Need-returns-2
+returns_2 : tie.Need-returns
 unfolding seeks
 returns_2 c = omega arith
 

@@ -8,7 +8,7 @@ use borrow.Author.Rules.{rules}
 use borrow.Author.Tests.{le-leb, lt-leb, lt-ltb, le-ltb}
 use Rattle.model.specs.File.{full, level_count}
 use Rattle.lemmas.specs.Lists.{up_from}
-use Rattle.lemmas.specs.Slices.{get_d_map}
+use Rattle.lemmas.specs.Slices.{get_or_map}
 use Rattle.model.specs.Score.{byte_limit}
 use Rattle.model.specs.ScoreLaws.{limits_are}
 use Rattle.records.specs.Record.{limit_of}
@@ -18,6 +18,7 @@ use Rattle.records.proofs.byte_limit.Tie as tie
 -- counting from k on, the number at a place
 count_at_lem : (k n i : ℕ) → i < n → get_or (up_from k n) i 0 ≡ k + i
 unfolding up_from
+count_at_lem k zero i h = elim h [ ]
 count_at_lem k (suc n) zero h = omega arith
 count_at_lem k (suc n) (suc i) h = count_at_lem (suc k) n i (omega arith) ∙ omega arith
 
@@ -26,32 +27,32 @@ table : (i : ℕ) → i < 5 → get_or (10485760 ∷ 104857600 ∷ 1048576000 �
 unfolding up_from
 table i h =
     ap (λ (l : List ℕ). get_or l i 0) (sym limits_are)
-    ∙ get_d_map byte_limit (up_from 0 5) i 0 0 h
+    ∙ get_or_map byte_limit (up_from 0 5) i 0 0 h
     ∙ ap byte_limit (count_at_lem 0 5 i h ∙ omega arith)
 
-returns : tie.Need-returns
+returns : tie.Need-returns-then-level-lt1
 unfolding limit_of
-returns c = rw (lt-leb 1 _ c.if1.true)
+returns c = rw (lt-leb 1 _ c.if-level-lt1.true)
 
-returns_2 : tie.Need-returns-2
+returns_2 : tie.Need-returns-then-i-ge5
 unfolding limit_of full
 returns_2 c =
-    let l = c.before.before.args.level in
+    let l = c.args.level in
     let h : level_count ≤ l + 1 = omega arith in
-    rw (le-leb 1 l c.before.if1.false, le-ltb (l + 1) level_count h)
+    rw (le-leb 1 l c.if-level-lt1.false, le-ltb (l + 1) level_count h)
 
-mul-result : tie.Need-overflow-mul-result
+mul-result : tie.Need-offset_bounds-i
 mul-result c = search rules
 
-array-read-result : tie.Need-array-read-result
+array-read-result : tie.Need-bounds-i
 array-read-result c = search rules
 
-returns_3 : tie.Need-returns-3
+returns_3 : tie.Need-returns
 unfolding limit_of full
 returns_3 c =
-    let l = c.before.before.args.level in
+    let l = c.args.level in
     let h : l + 1 < level_count = omega arith in
-    rw (le-leb 1 l c.before.if1.false, lt-ltb (l + 1) level_count h) (table (l - 1) (omega arith))
+    rw (le-leb 1 l c.if-level-lt1.false, lt-ltb (l + 1) level_count h) (table (l - 1) (omega arith))
 
 pub byte_limit_spec : {M : Type 1} → statement M
 byte_limit_spec = tie.close (tie.spec returns returns_2 mul-result array-read-result returns_3)

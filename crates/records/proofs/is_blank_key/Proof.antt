@@ -7,16 +7,16 @@ use Rattle.records.specs.Record.{blank_key}
 use Rattle.records.proofs.is_blank_key.Statement.{statement}
 use Rattle.records.proofs.is_blank_key.Tie as tie
 
-holds-zeros-requires : tie.Need-holds-zeros-requires
+holds-zeros-requires : tie.Need-holds_zeros-requires
 holds-zeros-requires c κs = search rules
 
-returns : tie.Need-returns
+returns : tie.Need-returns-then-k-eq0
 unfolding blank_key
-returns c = rw (eq-eqb _ 0 c.before.if1.true) (c.holds-zeros.ensures ∙ sym (sound_empty c.before.before.before.args.k c.before.if1.true))
+returns c = rw (eq-eqb _ 0 c.if-k-eq0.true) (c.holds_zeros.ensures ∙ sym (sound_empty c.args.k c.if-k-eq0.true))
 
-returns_2 : tie.Need-returns-2
+returns_2 : tie.Need-returns-else-k-eq0
 unfolding blank_key
-returns_2 c = rw (ne_eqb _ 0 c.if1.false)
+returns_2 c = rw (ne_eqb _ 0 c.if-k-eq0.false)
 
 pub is_blank_key_spec : {M : Type 1} → statement M
 is_blank_key_spec = tie.close (tie.spec holds-zeros-requires returns returns_2)

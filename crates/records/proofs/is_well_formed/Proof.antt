@@ -44,62 +44,62 @@ well r =
     (not (before (key_of r.largest) (key_of r.smallest))) (leb r.size max_size)
 
 -- ---- the smallest key
-abbrev at_low : tie.After-is-whole → tie.Start
-at_low c = c.before.before.before.before.before.before
+abbrev at_low : tie.After-is_whole → tie.Start
+at_low c = c.before.before.before.before.before
 
-is-whole-requires : tie.Need-is-whole-requires
+is-whole-requires : tie.Need-is_whole-requires
 is-whole-requires c κs = search rules
 
 -- what the test of the smallest key says
-low : (c : tie.After-is-whole) → c.is_whole.result ≡ whole (at_low c).args.r.smallest
+low : (c : tie.After-is_whole) → c.is_whole.result ≡ whole (at_low c).args.r.smallest
 low c = c.is_whole.ensures ∙ whole_is full.longest (at_low c).args.r.smallest
 
-returns : tie.Need-returns
-returns c = rw (well (at_low c.before).args.r, sym (low c.before) ∙ not-true _ c.if1.true)
+returns : tie.Need-returns-then-not-is_whole
+returns c = rw (well (at_low c.before).args.r, sym (low c.before) ∙ c.if-not-is_whole.true)
 
 -- it passed
-low_whole : (c : tie.Else1) → whole (at_low c.before).args.r.smallest ≡ true
-low_whole c = sym (low c.before) ∙ not-false _ c.if1.false
+low_whole : (c : tie.Else-not-is_whole) → whole (at_low c.before).args.r.smallest ≡ true
+low_whole c = sym (low c.before) ∙ c.if-not-is_whole.false
 
 -- ---- the largest key
-abbrev past_low : tie.After-is-whole2 → tie.Else1
-past_low c = c.before.before.before.before
+abbrev past_low : tie.After-is_whole-2 → tie.Else-not-is_whole
+past_low c = c.before.before.before
 
-abbrev at_high : tie.After-is-whole2 → tie.Start
+abbrev at_high : tie.After-is_whole-2 → tie.Start
 at_high c = at_low (past_low c).before
 
-is-whole-requires-2 : tie.Need-is-whole-requires-2
+is-whole-requires-2 : tie.Need-is_whole-requires-2
 is-whole-requires-2 c κs = search rules
 
 -- what the test of the largest key says
-high : (c : tie.After-is-whole2) → c.is-whole2.result ≡ whole (at_high c).args.r.largest
-high c = c.is-whole2.ensures ∙ whole_is full.longest (at_high c).args.r.largest
+high : (c : tie.After-is_whole-2) → c.is_whole-2.result ≡ whole (at_high c).args.r.largest
+high c = c.is_whole-2.ensures ∙ whole_is full.longest (at_high c).args.r.largest
 
-returns_2 : tie.Need-returns-2
-returns_2 c = rw (well (at_high c.before).args.r, low_whole (past_low c.before), sym (high c.before) ∙ not-true _ c.if2.true)
+returns_2 : tie.Need-returns-then-not-is_whole-2
+returns_2 c = rw (well (at_high c.before).args.r, low_whole (past_low c.before), sym (high c.before) ∙ c.if-not-is_whole-2.true)
 
 -- it passed
-high_whole : (c : tie.Else2) → whole (at_high c.before).args.r.largest ≡ true
-high_whole c = sym (high c.before) ∙ not-false _ c.if2.false
+high_whole : (c : tie.Else-not-is_whole-2) → whole (at_high c.before).args.r.largest ≡ true
+high_whole c = sym (high c.before) ∙ c.if-not-is_whole-2.false
 
 -- ---- the order of the two
-abbrev lent : tie.After-precedes-arg4 → tie.Else2
-lent c = c.before.before.before.before.before.before
+abbrev lent : tie.After-precedes-arg-4-1 → tie.Else-not-is_whole-2
+lent c = c.before.before.before.before
 
-abbrev start : tie.Else2 → tie.Start
+abbrev start : tie.Else-not-is_whole-2 → tie.Start
 start d = at_high d.before
 
 -- the keys have their room
-shape : (d : tie.Else2) → Shaped (start d).args.r
+shape : (d : tie.Else-not-is_whole-2) → Shaped (start d).args.r
 shape d = search shapes
 
 -- the first bytes that are compared are the keys
-smallest : (d : tie.Else2) → let k = (start d).args.r.smallest in (k.len ≤ length k.bytes) × (take k.len k.bytes ≡ key_of k)
+smallest : (d : tie.Else-not-is_whole-2) → let k = (start d).args.r.smallest in (k.len ≤ length k.bytes) × (take k.len k.bytes ≡ key_of k)
 smallest d =
     let k = (start d).args.r.smallest in
     sound_front k (shape d).smallest (and_left (sound_key k) (good_key full.longest (key_of k)) (low_whole (past_low d.before)))
 
-largest : (d : tie.Else2) → let k = (start d).args.r.largest in (k.len ≤ length k.bytes) × (take k.len k.bytes ≡ key_of k)
+largest : (d : tie.Else-not-is_whole-2) → let k = (start d).args.r.largest in (k.len ≤ length k.bytes) × (take k.len k.bytes ≡ key_of k)
 largest d =
     let k = (start d).args.r.largest in
     sound_front k (shape d).largest (and_left (sound_key k) (good_key full.longest (key_of k)) (high_whole d))
@@ -116,33 +116,33 @@ order c =
     let d = lent c.before in
     rw (← (largest d).1, ← (smallest d).1) c.precedes.ensures
 
-returns_3 : tie.Need-returns-3
+returns_3 : tie.Need-returns-then-precedes
 returns_3 c =
     let d = lent c.before.before in
-    rw (well (start d).args.r, low_whole (past_low d.before), high_whole d, sym (order c.before) ∙ c.if3.true)
+    rw (well (start d).args.r, low_whole (past_low d.before), high_whole d, sym (order c.before) ∙ c.if-precedes.true)
 
 -- ---- size and seeks
 -- where the order is right, the rest decides
-rest : (c : tie.Else3) → let r = (start (lent c.before.before)).args.r in well_record r ≡ leb r.size max_size && eqb r.seeks (seeks r.size)
+rest : (c : tie.Else-precedes) → let r = (start (lent c.before.before)).args.r in well_record r ≡ leb r.size max_size && eqb r.seeks (seeks r.size)
 rest c =
     let d = lent c.before.before in
-    rw (well (start d).args.r, low_whole (past_low d.before), high_whole d, sym (order c.before) ∙ c.if3.false)
+    rw (well (start d).args.r, low_whole (past_low d.before), high_whole d, sym (order c.before) ∙ c.if-precedes.false)
 
-returns-4 : tie.Need-returns-4
+returns-4 : tie.Need-returns-then-r-gt-LARGEST_SIZE
 returns-4 c =
     let e = c.before.before in
     let r = (start (lent e.before.before)).args.r in
     rw (rest e, lt-leb r.size max_size (omega arith))
 
-allowed-seeks-requires : tie.Need-allowed-seeks-requires
+allowed-seeks-requires : tie.Need-allowed_seeks-requires
 allowed-seeks-requires c κs = search rules
 
-returns-5 : tie.Need-returns-5
+returns-5 : tie.Need-returns
 returns-5 c =
-    let f = c.before.before in
-    let e = f.before.before in
+    let f = c in
+    let e = f.before.before.before.before in
     let r = (start (lent e.before.before)).args.r in
-    rw (rest e, le-leb r.size max_size (omega arith), ← c.before.allowed-seeks.ensures)
+    rw (rest e, le-leb r.size max_size (omega arith), ← c.allowed_seeks.ensures)
 
 pub is_well_formed_spec : {M : Type 1} → statement M
 is_well_formed_spec = tie.close (tie.spec is-whole-requires returns is-whole-requires-2 returns_2 precedes-requires returns_3 returns-4 allowed-seeks-requires returns-5)
