@@ -8,24 +8,24 @@ use borrow.Author.Rules.{rules}
 use Rattle.edit.proofs.Edit.delete.Statement.{statement}
 use Rattle.edit.proofs.Edit.delete.Tie as tie
 
-mul-d : tie.Need-overflow-mul-d
+mul-d : tie.Need-offset_bounds-e-n
 mul-d c = search rules
 
-element-set-from-d : tie.Need-element-set-from-d
+element-set-from-d : tie.Need-bounds-e-n
 element-set-from-d c = search rules
 
-one-more-requires : tie.Need-one-more-requires
+one-more-requires : tie.Need-one_more-requires
 one-more-requires c κs = search rules
 
 returns : tie.Need-returns
 unfolding with_deletion
 returns c =
-    let s = c.before.before in
+    let s = c in
     let e = s.args.self in
     ⊎_elim
-    (λ w. rw (w.1, c.one_more.ensures))
-    (λ w. rw (w.1, c.one_more.ensures, set_out e.deletions e.deletion_count s.args.d (omega (arith, (has_room e _ s.well-formed.0).deletions, w.0.left))))
-    c.before.if1.branch
+    (λ w. rw (w.e-is, c.one_more.ensures))
+    (λ w. rw (w.e-is, c.one_more.ensures, set_out e.deletions e.deletion_count s.args.d (omega (arith, (has_room e _ s.well_formed.0).deletions, w.if-n-lt-DELETIONS.false))))
+    c.if-n-lt-DELETIONS.branch-raw
 
 pub delete_spec : {M : Type 1} → statement M
 delete_spec = tie.close (tie.spec mul-d element-set-from-d one-more-requires returns)
