@@ -13,7 +13,7 @@ use Rattle.levels.proofs.are_well_formed.Tie as tie
 
 returns : tie.Need-returns-then-not-v
 unfolding tells_well
-returns c = let v = c.args.v in sym (rw (c.if-not-v.true))
+returns c = let v = c.args.v in sym (rw (not-true v.arranged c.if-not-v.true))
 
 sub-all-distinct : tie.Need-slice_bounds-all_distinct-count
 sub-all-distinct c = search rules
@@ -35,7 +35,7 @@ returns_2 c =
     let e = c in
     let v = e.args.v in
     let n : v.total - 0 ≡ v.total = omega arith in
-    c.all_distinct.ensures ∙ ap (λ (k : ℕ). distinct (take k v.numbers)) n ∙ sym (rw (e.if-not-v.false))
+    c.all_distinct.ensures ∙ ap (λ (k : ℕ). distinct (take k v.numbers)) n ∙ sym (rw (not-false v.arranged e.if-not-v.false))
 
 pub are_well_formed_spec : {M : Type 1} → statement M
 are_well_formed_spec = tie.close (tie.spec returns sub-all-distinct part-all-distinct-start part-all-distinct-end all-distinct-requires returns_2)

@@ -202,14 +202,14 @@ goes_on c =
     let q : length a.files ≡ max_files = search rules in
     ⊎_elim
     (λ w.
-    let after = w.0.taken in
-    let t = sym w.2.ensures ∙ not-false w.2.result w.3.left in
+    let after = w.if-from-i.true in
+    let t = sym w.may_follow.ensures ∙ w.if-not-may_follow.false in
     sym (next_follows level i to a.files (omega arith) (omega arith) (omega arith) t) ∙ m.loop-i.invariant.6 after)
     (λ w.
-    let not_after_lem = w.left in
+    let not_after_lem = w.if-from-i.false in
     let first : i + 1 - 1 ≡ o.loop-level.i = omega arith in
     ap (λ (j : ℕ). in_order level (run j to a.files)) first)
-    c.if-from-i.branch-raw
+    c.else-from-i.branch-raw
 
 add-bytes : tie.Need-overflow_add-bytes invariant-loop2 decreases-loop2 invariant-loop decreases-loop invariant-loop3 decreases-loop3
 add-bytes c = let s = sized c.before.before in omega arith
