@@ -11,17 +11,17 @@ use Rattle.store.specs.Store.{store_of, pointer_record}
 use Rattle.store.proofs.fresh_store.Statement.{statement}
 use Rattle.store.proofs.fresh_store.Tie as tie
 
-blank-key-requires : tie.Need-blank-key-requires
+blank-key-requires : tie.Need-blank_key-key-requires
 blank-key-requires c κs = search rules
 
-blanks-requires : tie.Need-blanks-requires
+blanks-requires : tie.Need-blanks-files-requires
 blanks-requires c κs = search rules
 
 returns : tie.Need-returns
 unfolding store_of fresh full counts_of pointer_record counters_record
 returns c =
-    let files = c.blanks.ensures ∙ sym (laid_none level_count) in
-    let key = c.before.blank_key_lem.ensures in
+    let files = c.blanks-files.ensures ∙ sym (laid_none level_count) in
+    let key = c.blank_key-key.ensures in
     λ i. record {
       files = files i;
       counts = replicate level_count 0;

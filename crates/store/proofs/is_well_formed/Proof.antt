@@ -7,21 +7,21 @@ use Rattle.store.proofs.Shape.{shape}
 use Rattle.store.proofs.is_well_formed.Statement.{statement}
 use Rattle.store.proofs.is_well_formed.Tie as tie
 
-survey-requires : tie.Need-survey-requires
+survey-requires : tie.Need-survey-v-requires
 survey-requires c κs = search rules
 
 passes-requires : tie.Need-passes-requires
 passes-requires c κs =
-    let v = c.before.before in
-    let s = v.before.before.before.args.s in
-    rw v.survey.ensures.0 (survey_room s.files s.counts)
+    let v = c in
+    let s = v.args.s in
+    rw v.survey-v.ensures.0 (survey_room s.files s.counts)
 
 returns : tie.Need-returns
 returns c =
-    let v = c.before.before.before in
-    let start = v.before.before.before in
+    let v = c in
+    let start = v in
     let s = start.args.s in
-    c.passes.ensures ∙ rw v.survey.ensures.1 (sym (well_is s (shape s _ start.well-formed.0).pointers))
+    c.passes.ensures ∙ rw v.survey-v.ensures.1 (sym (well_is s (shape s _ start.well_formed.0).pointers))
 
 pub is_well_formed_spec : {M : Type 1} → statement M
 is_well_formed_spec = tie.close (tie.spec survey-requires passes-requires returns)

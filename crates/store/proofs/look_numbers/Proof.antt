@@ -9,24 +9,24 @@ use Rattle.store.proofs.Shape.{shape}
 use Rattle.store.proofs.look_numbers.Statement.{statement}
 use Rattle.store.proofs.look_numbers.Tie as tie
 
-survey-requires : tie.Need-survey-requires
+survey-requires : tie.Need-survey-v-requires
 survey-requires c κs = search rules
 
 passes-requires : tie.Need-passes-requires
 passes-requires c κs =
-    let v = c.before.before.before in
-    let s = v.before.before.before.args.s in
-    rw v.survey.ensures.0 (survey_room s.files s.counts)
+    let v = c in
+    let s = v.args.s in
+    rw v.survey-v.ensures.0 (survey_room s.files s.counts)
 
 returns : tie.Need-returns
 unfolding numbered_of
 returns c =
-    let v = c.before.before.before.before in
-    let start = v.before.before.before in
+    let v = c in
+    let start = v in
     let s = start.args.s in
-    let numbers = ap (λ (t : Surveyed). t.numbers) v.survey.ensures.0 in
-    let total = ap (λ (t : Surveyed). t.total) v.survey.ensures.0 in
-    let well : c.passes.result ≡ well_store s = c.passes.ensures ∙ rw v.survey.ensures.1 (sym (well_is s (shape s _ start.well-formed.0).pointers)) in
+    let numbers = ap (λ (t : Surveyed). t.numbers) v.survey-v.ensures.0 in
+    let total = ap (λ (t : Surveyed). t.total) v.survey-v.ensures.0 in
+    let well : c.passes.result ≡ well_store s = c.passes.ensures ∙ rw v.survey-v.ensures.1 (sym (well_is s (shape s _ start.well_formed.0).pointers)) in
     λ i. record { numbers = numbers i; total = total i; well = well i }
 
 pub look_numbers_spec : {M : Type 1} → statement M
