@@ -13,14 +13,14 @@ is-word-requires c κs = search rules
 
 returns : tie.Need-returns
 unfolding bytes_word
-returns c = simp (sym c.before.is_IsWord.ensures ∙ c.if1.true)
+returns c = simp (sym c.before.is-word.ensures ∙ c.if1.true)
 
 is-hex-requires : tie.Need-is-hex-requires
 is-hex-requires c κs = search rules
 
 returns_2 : tie.Need-returns-2
 unfolding bytes_word
-returns_2 c = simp (sym c.before.before.is_IsWord.ensures ∙ c.before.if1.false) c.is-hex.ensures
+returns_2 c = simp (sym c.before.before.is-word.ensures ∙ c.before.if1.false) c.is-hex.ensures
 
 pub is_bytes_spec : {M : Type 1} → statement M
 is_bytes_spec =

@@ -13,7 +13,7 @@ is-word-requires c κs = search rules
 
 returns : tie.Need-returns
 unfolding counter_name
-returns c = simp (sym c.before.is_IsWord.ensures ∙ c.if1.true)
+returns c = simp (sym c.before.is-word.ensures ∙ c.if1.true)
 
 slice-aggregate-is-word-2 : tie.Need-slice-aggregate-is-word-2
 slice-aggregate-is-word-2 c = search rules
@@ -23,7 +23,7 @@ is-word-requires-2 c κs = search rules
 
 returns_2 : tie.Need-returns-2
 unfolding counter_name
-returns_2 c = simp (sym c.before.before.before.before.is_IsWord.ensures ∙ c.before.before.before.if1.false, sym c.before.is-word2.ensures ∙ c.if2.true)
+returns_2 c = simp (sym c.before.before.before.before.is-word.ensures ∙ c.before.before.before.if1.false, sym c.before.is-word2.ensures ∙ c.if2.true)
 
 slice-aggregate-is-word-3 : tie.Need-slice-aggregate-is-word-3
 slice-aggregate-is-word-3 c = search rules
@@ -33,7 +33,7 @@ is-word-requires-3 c κs = search rules
 
 returns_3 : tie.Need-returns-3
 unfolding counter_name
-returns_3 c = simp (sym c.before.before.before.before.before.before.is_IsWord.ensures ∙ c.before.before.before.before.before.if1.false, sym c.before.before.before.is-word2.ensures ∙ c.before.before.if2.false) c.is-word3.ensures
+returns_3 c = simp (sym c.before.before.before.before.before.before.is-word.ensures ∙ c.before.before.before.before.before.if1.false, sym c.before.before.before.is-word2.ensures ∙ c.before.before.if2.false) c.is-word3.ensures
 
 pub is_counter_spec : {M : Type 1} → statement M
 is_counter_spec =

@@ -13,7 +13,7 @@ is-word-requires c κs = search rules
 
 returns : tie.Need-returns
 unfolding letter_word
-returns c = simp (sym c.before.is_IsWord.ensures ∙ c.if1.true)
+returns c = simp (sym c.before.is-word.ensures ∙ c.if1.true)
 
 slice-aggregate-is-word-2 : tie.Need-slice-aggregate-is-word-2
 slice-aggregate-is-word-2 c = search rules
@@ -23,7 +23,7 @@ is-word-requires-2 c κs = search rules
 
 returns_2 : tie.Need-returns-2
 unfolding letter_word
-returns_2 c = simp (sym c.before.before.before.is_IsWord.ensures ∙ c.before.before.if1.false) c.is-word2.ensures
+returns_2 c = simp (sym c.before.before.before.is-word.ensures ∙ c.before.before.if1.false) c.is-word2.ensures
 
 pub is_letter_spec : {M : Type 1} → statement M
 is_letter_spec =
