@@ -20,7 +20,7 @@ use Rattle.lemmas.specs.Lists.{all, find, sum, up_from}
 use Rattle.lemmas.specs.ListLaws.{all_in, join_in, join_length, up_from_in, find_up_from}
 use Rattle.model.specs.File.{Profile, File, State, level, total, max_size, level_count}
 use Rattle.model.specs.Score.{Score, lower, byte_limit, score, scored, has_greatest, level_to_compact, reported}
-use Rattle.model.specs.Formed.{WF, good_file_says}
+use Rattle.model.proofs.Formed.{WF, good_file_says}
 
 -- ---- fractions with a denominator above 0
 -- the denominator is above 0

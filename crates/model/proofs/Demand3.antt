@@ -19,11 +19,11 @@ use Rattle.model.specs.Counters.{counter}
 use Rattle.model.specs.Pick.{Pick, size_pick, manual_pick}
 use Rattle.model.specs.Snapshot.{by_number, five_of, encode}
 use Rattle.model.specs.History.{Call, edits, picks_size, picks_range, counts, kept, kept_pick, after, run, events, pointer_left, SameLeft}
-use Rattle.model.specs.Formed.{WF, distinct_level, Words, edit_keeps, count_keeps}
-use Rattle.model.specs.PickLaws.{size_keeps, range_keeps}
-use Rattle.model.specs.SnapshotLaws.{SameWritten, encode_apart, Fits, storable, same_bytes_lem}
+use Rattle.model.proofs.Formed.{WF, distinct_level, Words, edit_keeps, count_keeps}
+use Rattle.model.proofs.PickLaws.{size_keeps, range_keeps}
+use Rattle.model.proofs.SnapshotLaws.{SameWritten, encode_apart, Fits, storable, same_bytes_lem}
 use Rattle.model.specs.ByNumber.{same_by_number}
-use Rattle.model.specs.HistoryLaws.{fresh_stays, run_counters, run_pointers}
+use Rattle.model.proofs.HistoryLaws.{fresh_stays, run_counters, run_pointers}
 
 -- ---- well-formed throughout
 -- every file number in a call fits 64 bits, as code passes it

@@ -18,7 +18,7 @@ use Rattle.model.specs.Key.{Key, good_key, trailer_bytes}
 use Rattle.model.specs.File.{Profile, full, File, Counters, State, level, max_counter, max_size, good_file, apart, good_pointer, level_count}
 use Rattle.model.specs.Snapshot.{by_number, write_key, write_file, Entry, entries, write_entry, section, write_level, five_of, encode, file_long, entry_long, fresh_long, longest_snapshot, byte_long, count_long, number_long}
 use Rattle.model.specs.KeyLaws.{good_key_says}
-use Rattle.model.specs.Formed.{WF, good_file_says}
+use Rattle.model.proofs.Formed.{WF, good_file_says}
 
 -- a way of writing from which the end of a part is known, whatever follows
 pub record Delimited {A : Type 0} (Good : A → Type 0) (w : A → List ℕ) : Type 0 where

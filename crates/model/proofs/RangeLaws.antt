@@ -11,7 +11,7 @@ use Rattle.model.specs.Key.{Key, user, user_before, before}
 use Rattle.model.specs.KeyLaws.{user_before_order, before_order, user_same}
 use Rattle.model.specs.File.{File, by_smallest}
 use Rattle.model.specs.Range.{Range, overlaps, inside, Within, Closed, LeastWidening, earlier, later, stretch, sticks_out, widen_by, widen, is_lowest, is_highest, low_key, high_key}
-use Rattle.model.specs.EditLaws.{by_smallest_order}
+use Rattle.model.proofs.EditLaws.{by_smallest_order}
 
 -- ---- the order of user keys, with `a ≤ b` as `user_before b a ≡ false`
 -- a key is not before itself
