@@ -16,6 +16,7 @@ pub mod OverlaidLaws
 pub mod PatchedLaws
 pub mod PickLaws
 pub mod PickedLaws
+pub mod QuestionLaws
 pub mod RangeLaws
 pub mod Reading
 pub mod ScoreLaws

@@ -17,7 +17,6 @@ pub mod DifferenceBytes
 pub mod KeyLaws
 pub mod AnswerLaws
 pub mod CounterLaws
-pub mod QuestionLaws
 pub mod ByNumber
 pub mod Examples
 pub mod DifferenceExamples
