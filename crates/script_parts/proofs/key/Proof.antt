@@ -7,14 +7,14 @@ use borrow.Author.Rules.{rules}
 use Rattle.script_parts.proofs.key.Statement.{statement}
 use Rattle.script_parts.proofs.key.Tie as tie
 
-run-of-requires : tie.Need-run-of-requires
+run-of-requires : tie.Need-run_of-r-requires
 run-of-requires c κs = search rules
 
-internal-key-requires : tie.Need-internal-key-requires
+internal-key-requires : tie.Need-internal_key-requires
 internal-key-requires c κs = search rules
 
 returns : tie.Need-returns
-returns c = c.internal-key.ensures ∙ ap (λ (r : Run). internal_key c.before.before.before.args.line.now r.from r.to) c.before.run_of.ensures
+returns c = c.internal_key.ensures ∙ ap (λ (r : Run). internal_key c.args.line.now r.from r.to) c.run_of-r.ensures
 
 pub key_spec : {M : Type 1} → statement M
 key_spec = tie.close (tie.spec run-of-requires internal-key-requires returns)

@@ -7,29 +7,27 @@ use Rattle.script_words.specs.WordLaws.{hex_bytes_at, hex_bytes_past}
 use Rattle.script_words.proofs.digits_byte.Statement.{statement}
 use Rattle.script_words.proofs.digits_byte.Tie as tie
 
-run-length-requires : tie.Need-run-length-requires
+run-length-requires : tie.Need-run_length-n-requires
 run-length-requires c κs = search rules
 
-returns : tie.Need-returns
+returns : tie.Need-returns-then-n-i
 returns c =
-    let s = c.before.before.before.args in
-    sym (hex_bytes_past s.line.now s.from s.to s.i (omega (arith, c.before.run_length.ensures)))
+    let s = c.args in
+    sym (hex_bytes_past s.line.now s.from s.to s.i (omega (arith, c.run_length-n.ensures)))
 
-mul-hex-byte : tie.Need-overflow-mul-hex-byte
+mul-hex-byte : tie.Need-overflow_mul-i
 mul-hex-byte c = search rules
 
-add-hex-byte : tie.Need-overflow-add-hex-byte
+add-hex-byte : tie.Need-overflow_add-from
 add-hex-byte c = search rules
 
-hex-byte-requires : tie.Need-hex-byte-requires
+hex-byte-requires : tie.Need-hex_byte-requires
 hex-byte-requires c κs = search rules
 
-returns_2 : tie.Need-returns-2
+returns_2 : tie.Need-returns
 returns_2 c =
-    let s = c.before.before.before.before.args in
-    c.hex-byte.ensures ∙ sym (hex_bytes_at s.line.now s.from s.to s.i (omega (arith, c.before.before.run_length.ensures)))
+    let s = c.args in
+    c.hex_byte.ensures ∙ sym (hex_bytes_at s.line.now s.from s.to s.i (omega (arith, c.run_length-n.ensures)))
 
 pub digits_byte_spec : {M : Type 1} → statement M
-digits_byte_spec =
-    tie.close
-    (tie.spec run-length-requires returns mul-hex-byte add-hex-byte hex-byte-requires returns_2)
+digits_byte_spec = tie.close (tie.spec run-length-requires returns mul-hex-byte add-hex-byte hex-byte-requires returns_2)

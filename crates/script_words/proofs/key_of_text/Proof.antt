@@ -11,63 +11,51 @@ use Rattle.script_words.specs.WordLaws.{sealed_none, sealed_long, sealed_fine, s
 use Rattle.script_words.proofs.key_of_text.Statement.{statement}
 use Rattle.script_words.proofs.key_of_text.Tie as tie
 
-add-trailer-word : tie.Need-overflow-add-trailer-word
+add-trailer-word : tie.Need-overflow_add-mark
 add-trailer-word c = search rules
 
-trailer-word-requires : tie.Need-trailer-word-requires
+trailer-word-requires : tie.Need-trailer_word-t-requires
 trailer-word-requires c κs = search rules
 
-run-length-requires : tie.Need-run-length-requires
+run-length-requires : tie.Need-run_length-n-requires
 run-length-requires c κs = search rules
 
-no-key-requires : tie.Need-no-key-requires
+no-key-requires : tie.Need-no_key-requires
 no-key-requires c κs = search rules
 
-returns : tie.Need-returns
+returns : tie.Need-returns-then-not-t
 returns c =
-    let s = c.before.before.before.before.before.before.args in
-    let t = c.before.before.before.before.trailer-word in
-    rw (← t.ensures) (c.no_key.ensures ∙ sym (sealed_none (word_of s.line.now s.from s.mark) t.result (not-true t.result.fine c.before.if1.true)))
+    let s = c.args in
+    let t = c.trailer_word-t in
+    rw (← t.ensures) (c.no_key.ensures ∙ sym (sealed_none (word_of s.line.now s.from s.mark) t.result (not-true t.result.fine c.if-not-t.true)))
 
-no-key-requires-2 : tie.Need-no-key-requires-2
+no-key-requires-2 : tie.Need-no_key-requires-then-n-gt18446744073709551607
 no-key-requires-2 c κs = search rules
 
-returns_2 : tie.Need-returns-2
+returns_2 : tie.Need-returns-then-n-gt18446744073709551607
 returns_2 c =
-    let s = c.before.before.before.before.before.before.before.args in
-    let t = c.before.before.before.before.before.trailer-word in
+    let s = c.args in
+    let t = c.trailer_word-t in
     let w = word_of s.line.now s.from s.mark in
     rw (← t.ensures)
-    (c.no-key2.ensures
-    ∙ sym (sealed_long w t.result (not-false t.result.fine c.before.before.if1.false) (omega (arith, c.before.if2.true, c.before.before.before.before.run_length.ensures, word_length s.line.now s.from s.mark))))
+    (c.no_key-then-n-gt18446744073709551607.ensures
+    ∙ sym (sealed_long w t.result (not-false t.result.fine c.if-not-t.false) (omega (arith, c.if-n-gt18446744073709551607.true, c.run_length-n.ensures, word_length s.line.now s.from s.mark))))
 
-record-of-text-requires : tie.Need-record-of-text-requires
+record-of-text-requires : tie.Need-record_of_text-requires
 record-of-text-requires c κs = search rules
 
-add-t7 : tie.Need-overflow-add-t7
+add-t7 : tie.Need-overflow_add-result
 add-t7 c = search rules
 
-returns_3 : tie.Need-returns-3
+returns_3 : tie.Need-returns
 returns_3 c =
-    let s = c.before.before.before.before.before.before.before.args in
-    let t = c.before.before.before.before.before.trailer-word in
+    let s = c.args in
+    let t = c.trailer_word-t in
     let w = word_of s.line.now s.from s.mark in
     rw (← t.ensures)
-    (fine_key_is (w ++ bytes 8 t.result.value) c.record-of-text.result (c.before.before.before.before.run_length.result + 8) c.record-of-text.ensures
-    (omega (arith, sealed_length s.line.now s.from s.mark t.result.value, c.before.before.before.before.run_length.ensures))
-    ∙ sym (sealed_fine w t.result (not-false t.result.fine c.before.before.if1.false) (omega (arith, c.before.if2.false, c.before.before.before.before.run_length.ensures, word_length s.line.now s.from s.mark))))
+    (fine_key_is (w ++ bytes 8 t.result.value) c.record_of_text.result (c.run_length-n.result + 8) c.record_of_text.ensures
+    (omega (arith, sealed_length s.line.now s.from s.mark t.result.value, c.run_length-n.ensures))
+    ∙ sym (sealed_fine w t.result (not-false t.result.fine c.if-not-t.false) (omega (arith, c.if-n-gt18446744073709551607.false, c.run_length-n.ensures, word_length s.line.now s.from s.mark))))
 
 pub key_of_text_spec : {M : Type 1} → statement M
-key_of_text_spec =
-    tie.close
-    (tie.spec
-    add-trailer-word
-    trailer-word-requires
-    run-length-requires
-    no-key-requires
-    returns
-    no-key-requires-2
-    returns_2
-    record-of-text-requires
-    add-t7
-    returns_3)
+key_of_text_spec = tie.close (tie.spec add-trailer-word trailer-word-requires run-length-requires no-key-requires returns no-key-requires-2 returns_2 record-of-text-requires add-t7 returns_3)

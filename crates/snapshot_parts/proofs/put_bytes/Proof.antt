@@ -9,64 +9,50 @@ use Rattle.lemmas.specs.Merge.{lay_starts, lay_turn, lay_ended}
 use Rattle.snapshot_parts.proofs.put_bytes.Statement.{statement}
 use Rattle.snapshot_parts.proofs.put_bytes.Tie as tie
 
-abbrev invariant-loop : tie.invariant-loop
+abbrev invariant-loop : tie.invariant-loop-i
 invariant-loop out₀ at src n i₀ out i = (i ≤ n) × (length out ≡ length out₀) × (put out (at + i) (drop i src) ≡ put out₀ at src)
 
-abbrev decreases-loop : tie.decreases-loop
+abbrev decreases-loop : tie.decreases-loop-i
 decreases-loop out₀ at src n i₀ out i = n - i
 
-loop-holds : tie.Need-loop-init invariant-loop decreases-loop
+loop-holds : tie.Need-loop-i-init invariant-loop decreases-loop
 loop-holds c =
     let a = c.args in
     (omega arith, refl, lay_starts a.out.now a.at a.src.now)
 
-shared-slice-read-out : tie.Need-shared-slice-read-out invariant-loop decreases-loop
+shared-slice-read-out : tie.Need-bounds-src-i invariant-loop decreases-loop
 shared-slice-read-out c = omega arith
 
-add-out : tie.Need-overflow-add-out invariant-loop decreases-loop
+add-out : tie.Need-overflow_add-out invariant-loop decreases-loop
 add-out c = omega arith
 
-slice-write-out : tie.Need-slice-write-out invariant-loop decreases-loop
+slice-write-out : tie.Need-bounds-out-at invariant-loop decreases-loop
 slice-write-out c = omega arith
 
-add-i : tie.Need-overflow-add-i invariant-loop decreases-loop
+add-i : tie.Need-overflow_add-i invariant-loop decreases-loop
 add-i c = omega arith
 
-loop-less : tie.Need-loop-smaller invariant-loop decreases-loop
+loop-less : tie.Need-loop-i-smaller invariant-loop decreases-loop
 loop-less c = omega arith
 
-loop-again : tie.Need-loop-preserved invariant-loop decreases-loop
+loop-again : tie.Need-loop-i-preserved invariant-loop decreases-loop
 loop-again c =
-    let l = c.before.before in
-    let a = l.before.args in
-    let i = l.loop.i in
-    (omega arith, search rules, lay_turn l.loop.out a.at a.src.now i 0 (omega arith) (omega arith) ∙ l.loop.invariant.2)
+    let l = c in
+    let a = l.args in
+    let i = l.loop-i.i in
+    (omega arith, search rules, lay_turn l.loop-i.out a.at a.src.now i 0 (omega arith) (omega arith) ∙ l.loop-i.invariant.2)
 
-add-result : tie.Need-overflow-add-result invariant-loop decreases-loop
+add-result : tie.Need-overflow_add-result invariant-loop decreases-loop
 add-result c = omega arith
 
-same_length : tie.Need-same-length invariant-loop decreases-loop
+same_length : tie.Need-shape_of-out invariant-loop decreases-loop
 same_length c = search rules
 
 returns : tie.Need-returns invariant-loop decreases-loop
 returns c =
-    let l = c.before in
-    let a = l.before.args in
-    (omega arith, sym (lay_ended l.loop.out a.at a.src.now l.loop.i (omega arith)) ∙ l.loop.invariant.2)
+    let l = c in
+    let a = l.args in
+    (omega arith, sym (lay_ended l.loop-i.out a.at a.src.now l.loop-i.i (omega arith)) ∙ l.loop-i.invariant.2)
 
 pub put_bytes_spec : {M : Type 1} → statement M
-put_bytes_spec =
-    tie.close
-    (tie.spec
-    invariant-loop
-    decreases-loop
-    loop-holds
-    shared-slice-read-out
-    add-out
-    slice-write-out
-    add-i
-    loop-less
-    loop-again
-    add-result
-    same_length
-    returns)
+put_bytes_spec = tie.close (tie.spec invariant-loop decreases-loop loop-holds shared-slice-read-out add-out slice-write-out add-i loop-less loop-again add-result same_length returns)

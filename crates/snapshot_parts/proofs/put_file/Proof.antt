@@ -16,67 +16,57 @@ long : (s : tie.Start) → let f = s.args.f in length (write_file (file_of f)) �
 unfolding file_of
 long s = write_file_parts (file_of s.args.f)
 
-put-number-requires : tie.Need-put-number-requires
+put-number-requires : tie.Need-put_number-requires
 put-number-requires c κs =
     let n = long c.before.before in
     omega arith
 
-add-put-number : tie.Need-overflow-add-put-number
+add-put-number : tie.Need-overflow_add-at
 add-put-number c =
     let n = long c.before.before.before.before.before.before in
     omega arith
 
-put-number-requires-2 : tie.Need-put-number-requires-2
+put-number-requires-2 : tie.Need-put_number-requires-2
 put-number-requires-2 c κs =
     let n = long c.before.before.before.before.before.before in
     omega arith
 
-add-put-key : tie.Need-overflow-add-put-key
+add-put-key : tie.Need-overflow_add-at-2
 add-put-key c =
     let n = long c.before.before.before.before.before.before.before.before.before.before in
     omega arith
 
-put-key-requires : tie.Need-put-key-requires
+put-key-requires : tie.Need-put_key-next-requires
 put-key-requires c κs =
-    let s = c.before.before.before.before.before.before.before.before.before.before in
+    let s = c.before.before.before.before.before.before.before.before.before.before.before in
     let n = long s in
     ((record_short s.args.f s.requires.0).0, omega arith)
 
-put-key-requires-2 : tie.Need-put-key-requires-2
+put-key-requires-2 : tie.Need-put_key-requires
 put-key-requires-2 c κs =
-    let s = c.before.before.before.before.before.before.before.before.before.before.before.before.before.before in
+    let s = c.before.before.before.before.before.before.before.before.before.before.before.before.before.before.before.before in
     let n = long s in
     ((record_short s.args.f s.requires.0).1, omega arith)
 
-same_length : tie.Need-same-length
+same_length : tie.Need-shape_of-out
 same_length c = search rules
 
 returns : tie.Need-returns
 unfolding file_of
 returns c =
-    let k₂ = c.before.before in
-    let k₁ = k₂.before.before.before.before in
-    let p₂ = k₁.before.before.before.before in
-    let p₁ = p₂.before.before.before.before in
-    let s = p₁.before.before.before in
+    let k₂ = c in
+    let k₁ = k₂ in
+    let p₂ = k₁ in
+    let p₁ = p₂ in
+    let s = p₁.before.before.before.before.before.before.before.before.before.before.before.before.before.before.before.before.before.before.before in
     let a = s.args in
     let n = long s in
-    let e₁ = k₁.put-key.ensures in
-    let e₂ = k₂.put-key2.ensures in (
+    let e₁ = k₁.put_key-next.ensures in
+    let e₂ = k₂.put_key.ensures in (
       omega arith,
-      file_laid (file_of a.f) a.out.now p₁.put-number.new.0 p₂.put-number2.new.0 k₁.put-key.new.0 k₂.put-key2.new.0 a.at k₁.put-key.result s.requires.1
-          p₁.put-number.ensures p₂.put-number2.ensures e₁.1 e₁.0 e₂.1,
+      file_laid (file_of a.f) a.out.now p₁.put_number.new.out p₂.put_number-2.new.out k₁.put_key-next.new.out k₂.put_key.new.out a.at k₁.put_key-next.result s.requires.1
+          p₁.put_number.ensures p₂.put_number-2.ensures e₁.1 e₁.0 e₂.1,
     )
 
 pub put_file_spec : {M : Type 1} → statement M
-put_file_spec =
-    tie.close
-    (tie.spec
-    put-number-requires
-    add-put-number
-    put-number-requires-2
-    add-put-key
-    put-key-requires
-    put-key-requires-2
-    same_length
-    returns)
+put_file_spec = tie.close (tie.spec put-number-requires add-put-number put-number-requires-2 add-put-key put-key-requires put-key-requires-2 same_length returns)

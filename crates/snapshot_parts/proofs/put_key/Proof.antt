@@ -17,106 +17,90 @@ use Rattle.snapshot_parts.specs.LayingLaws.{key_long}
 use Rattle.snapshot_parts.proofs.put_key.Statement.{statement}
 use Rattle.snapshot_parts.proofs.put_key.Tie as tie
 
-abbrev invariant-loop : tie.invariant-loop
+abbrev invariant-loop : tie.invariant-loop-i
 invariant-loop out₀ at k n start i₀ out i = (i ≤ n) × (length out ≡ length out₀) × (put out (start + i) (drop i (key_of k)) ≡ put out₀ start (key_of k))
 
-abbrev decreases-loop : tie.decreases-loop
+abbrev decreases-loop : tie.decreases-loop-i
 decreases-loop out₀ at k n start i₀ out i = n - i
 
 -- the key has as many bytes as it says, and one more is written
-long : (s : tie.Start invariant-loop decreases-loop) → let k = s.args.t3 in (length (key_of k) ≡ k.len) × (length (write_key (key_of k)) ≡ 1 + k.len)
+long : (s : tie.Start invariant-loop decreases-loop) → let k = s.args.k in (length (key_of k) ≡ k.len) × (length (write_key (key_of k)) ≡ 1 + k.len)
 long s =
-    let k = s.args.t3 in
+    let k = s.args.k in
     let q : length k.bytes ≡ key_room = search rules in
     let n = key_long k q s.requires.0 in
     (n, omega (arith, write_key_length (key_of k)))
 
-put-number-requires : tie.Need-put-number-requires invariant-loop decreases-loop
+put-number-requires : tie.Need-put_number-requires invariant-loop decreases-loop
 put-number-requires c κs =
     let l = long c.before.before in
     omega arith
 
-add_start : tie.Need-overflow-add-start invariant-loop decreases-loop
+add_start : tie.Need-overflow_add-start invariant-loop decreases-loop
 add_start c =
     let l = long c.before.before.before.before.before in
     omega arith
 
-loop-holds : tie.Need-loop-init invariant-loop decreases-loop
+loop-holds : tie.Need-loop-i-init invariant-loop decreases-loop
 loop-holds c =
-    let b = c.before.before in
-    let a = b.before.before.before.args in
-    (omega arith, refl, lay_starts b.put-number.new.0 (a.at + 1) (key_of a.t3))
+    let b = c in
+    let a = b.args in
+    (omega arith, refl, lay_starts b.put_number.new.out (a.at + 1) (key_of a.k))
 
-element-copy-out-out : tie.Need-element-copy-out-out invariant-loop decreases-loop
+element-copy-out-out : tie.Need-bounds-k-i invariant-loop decreases-loop
 element-copy-out-out c =
-    let h = c.before.before.before.before.before.before.before.requires.0 in
+    let h = c.requires.0 in
     omega arith
 
-add-out : tie.Need-overflow-add-out invariant-loop decreases-loop
+add-out : tie.Need-overflow_add-out invariant-loop decreases-loop
 add-out c =
     let l = long c.before.before.before.before.before.before.before.before in
     omega arith
 
-slice-write-out : tie.Need-slice-write-out invariant-loop decreases-loop
+slice-write-out : tie.Need-bounds-out-start invariant-loop decreases-loop
 slice-write-out c =
     let l = long c.before.before.before.before.before.before.before.before in
     omega arith
 
-add-i : tie.Need-overflow-add-i invariant-loop decreases-loop
+add-i : tie.Need-overflow_add-i invariant-loop decreases-loop
 add-i c = omega arith
 
-loop-less : tie.Need-loop-smaller invariant-loop decreases-loop
+loop-less : tie.Need-loop-i-smaller invariant-loop decreases-loop
 loop-less c = omega arith
 
-loop-again : tie.Need-loop-preserved invariant-loop decreases-loop
+loop-again : tie.Need-loop-i-preserved invariant-loop decreases-loop
 loop-again c =
-    let l = c.before.before in
-    let s = l.before.before.before.before.before.before in
+    let l = c in
+    let s = l.before.before.before.before.before.before.before.before in
     let a = s.args in
-    let i = l.loop.i in
+    let i = l.loop-i.i in
     let n = long s in
-    let q : length a.t3.bytes ≡ key_room = search rules in
-    let byte : get_or (key_of a.t3) i 0 ≡ get_or a.t3.bytes i 0 = key_of_at a.t3 q i (omega arith) in
-    let turn = rw byte at (lay_turn l.loop.out (a.at + 1) (key_of a.t3) i 0 (omega arith) (omega arith)) in
-    (omega arith, search rules, turn ∙ l.loop.invariant.2)
+    let q : length a.k.bytes ≡ key_room = search rules in
+    let byte : get_or (key_of a.k) i 0 ≡ get_or a.k.bytes i 0 = key_of_at a.k q i (omega arith) in
+    let turn = rw byte at (lay_turn l.loop-i.out (a.at + 1) (key_of a.k) i 0 (omega arith) (omega arith)) in
+    (omega arith, search rules, turn ∙ l.loop-i.invariant.2)
 
-add-result : tie.Need-overflow-add-result invariant-loop decreases-loop
+add-result : tie.Need-overflow_add-result invariant-loop decreases-loop
 add-result c =
     let l = long c.before.before.before.before.before.before.before in
     omega arith
 
-same_length : tie.Need-same-length invariant-loop decreases-loop
+same_length : tie.Need-shape_of-out invariant-loop decreases-loop
 same_length c = search rules
 
 returns : tie.Need-returns invariant-loop decreases-loop
 unfolding write_key
 returns c =
-    let l = c.before in
-    let b = l.before.before.before in
-    let s = b.before.before.before in
+    let l = c in
+    let b = l in
+    let s = b.before.before.before.before.before.before.before in
     let a = s.args in
     let n = long s in
-    let k = key_of a.t3 in
-    let byte : b.put-number.new.0 ≡ put a.out.now a.at (bytes byte_long (length k)) = b.put-number.ensures ∙ ap (λ (m : ℕ). put a.out.now a.at (bytes byte_long m)) (sym n.0) in
+    let k = key_of a.k in
+    let byte : b.put_number.new.out ≡ put a.out.now a.at (bytes byte_long (length k)) = b.put_number.ensures ∙ ap (λ (m : ℕ). put a.out.now a.at (bytes byte_long m)) (sym n.0) in
     let one = bytes_length 1 (length k) in
-    let laid : l.loop.out ≡ put b.put-number.new.0 (a.at + 1) k = sym (lay_ended l.loop.out (a.at + 1) k l.loop.i (omega arith)) ∙ l.loop.invariant.2 in
-    (omega arith, put_next a.out.now b.put-number.new.0 l.loop.out a.at (a.at + 1) (bytes byte_long (length k)) k (omega arith) byte (omega arith) laid)
+    let laid : l.loop-i.out ≡ put b.put_number.new.out (a.at + 1) k = sym (lay_ended l.loop-i.out (a.at + 1) k l.loop-i.i (omega arith)) ∙ l.loop-i.invariant.2 in
+    (omega arith, put_next a.out.now b.put_number.new.out l.loop-i.out a.at (a.at + 1) (bytes byte_long (length k)) k (omega arith) byte (omega arith) laid)
 
 pub put_key_spec : {M : Type 1} → statement M
-put_key_spec =
-    tie.close
-    (tie.spec
-    invariant-loop
-    decreases-loop
-    put-number-requires
-    add_start
-    loop-holds
-    element-copy-out-out
-    add-out
-    slice-write-out
-    add-i
-    loop-less
-    loop-again
-    add-result
-    same_length
-    returns)
+put_key_spec = tie.close (tie.spec invariant-loop decreases-loop put-number-requires add_start loop-holds element-copy-out-out add-out slice-write-out add-i loop-less loop-again add-result same_length returns)

@@ -10,58 +10,45 @@ use Rattle.lemmas.specs.Slices.{put}
 use Rattle.snapshot_parts.proofs.put_number.Statement.{statement}
 use Rattle.snapshot_parts.proofs.put_number.Tie as tie
 
-abbrev invariant-loop : tie.invariant-loop
+abbrev invariant-loop : tie.invariant-loop-j
 invariant-loop out₀ at width x j₀ y₀ out j y =
     (j ≤ width) × (length out ≡ length out₀) × (put out (at + j) (bytes (width - j) y) ≡ put out₀ at (bytes width x))
 
-abbrev decreases-loop : tie.decreases-loop
+abbrev decreases-loop : tie.decreases-loop-j
 decreases-loop out₀ at width x j₀ y₀ out j y = width - j
 
-loop-holds : tie.Need-loop-init invariant-loop decreases-loop
+loop-holds : tie.Need-loop-j-init invariant-loop decreases-loop
 loop-holds c = (omega arith, refl, rw (add-zero, sub-zero))
 
-cast-out : tie.Need-overflow-cast-out invariant-loop decreases-loop
+cast-out : tie.Need-overflow_cast-out invariant-loop decreases-loop
 cast-out c = omega arith
 
-add-out : tie.Need-overflow-add-out invariant-loop decreases-loop
+add-out : tie.Need-overflow_add-out invariant-loop decreases-loop
 add-out c = omega arith
 
-slice-write-out : tie.Need-slice-write-out invariant-loop decreases-loop
+slice-write-out : tie.Need-bounds-out-at invariant-loop decreases-loop
 slice-write-out c = omega arith
 
-add-j : tie.Need-overflow-add-j invariant-loop decreases-loop
+add-j : tie.Need-overflow_add-j invariant-loop decreases-loop
 add-j c = omega arith
 
-loop-less : tie.Need-loop-smaller invariant-loop decreases-loop
+loop-less : tie.Need-loop-j-smaller invariant-loop decreases-loop
 loop-less c = omega arith
 
-loop-again : tie.Need-loop-preserved invariant-loop decreases-loop
+loop-again : tie.Need-loop-j-preserved invariant-loop decreases-loop
 loop-again c =
-    let l = c.before.loop in
-    let a = c.before.before.args in
+    let l = c.loop-j in
+    let a = c.args in
     (omega arith, search rules, bytes_turn l.out a.at a.width l.j l.y (omega arith) (omega arith) ∙ l.invariant.2)
 
-same_length : tie.Need-same-length invariant-loop decreases-loop
+same_length : tie.Need-shape_of-out invariant-loop decreases-loop
 same_length c = search rules
 
 returns : tie.Need-returns invariant-loop decreases-loop
 returns c =
-    let l = c.before.loop in
-    let a = c.before.before.args in
+    let l = c.loop-j in
+    let a = c.args in
     sym (bytes_end l.out a.at a.width l.j l.y (omega arith)) ∙ l.invariant.2
 
 pub put_number_spec : {M : Type 1} → statement M
-put_number_spec =
-    tie.close
-    (tie.spec
-    invariant-loop
-    decreases-loop
-    loop-holds
-    cast-out
-    add-out
-    slice-write-out
-    add-j
-    loop-less
-    loop-again
-    same_length
-    returns)
+put_number_spec = tie.close (tie.spec invariant-loop decreases-loop loop-holds cast-out add-out slice-write-out add-j loop-less loop-again same_length returns)

@@ -8,7 +8,7 @@ use Rattle.snapshot_read.specs.ReadingLaws.{snapshot_is}
 use Rattle.snapshot_read.proofs.is_snapshot.Statement.{statement}
 use Rattle.snapshot_read.proofs.is_snapshot.Tie as tie
 
-parse-requires : tie.Need-parse-requires
+parse-requires : tie.Need-parse-s-requires
 parse-requires c κs = search rules
 
 writes-requires : tie.Need-writes-requires
@@ -16,9 +16,9 @@ writes-requires c κs = search rules
 
 returns : tie.Need-returns
 returns c =
-    let p = c.before in
-    let src = p.before.before.args.src.now in
-    c.writes.ensures ∙ ap (λ (s : Store). writes_these s src) p.parse.ensures ∙ snapshot_is src
+    let p = c in
+    let src = p.args.src.now in
+    c.writes.ensures ∙ ap (λ (s : Store). writes_these s src) p.parse-s.ensures ∙ snapshot_is src
 
 pub is_snapshot_spec : {M : Type 1} → statement M
 is_snapshot_spec = tie.close (tie.spec parse-requires writes-requires returns)

@@ -12,42 +12,34 @@ use borrow.Author.Rules.{rules}
 use Rattle.snapshot_read.proofs.read.Statement.{statement}
 use Rattle.snapshot_read.proofs.read.Tie as tie
 
-parse-requires : tie.Need-parse-requires
+parse-requires : tie.Need-parse-s-requires
 parse-requires c κs = search rules
 
 writes-requires : tie.Need-writes-requires
 writes-requires c κs = search rules
 
-returns : tie.Need-returns
+returns : tie.Need-returns-then-writes
 returns c =
-    let p = c.before.before.parse in
-    let bs = c.before.before.before.before.args.src.now in
-    let w = c.before.writes in
-    let h : writes_these (store_of (state_in bs)) bs ≡ true = ap (λ (s : Store). writes_these s bs) (sym p.ensures) ∙ sym w.ensures ∙ c.if1.true in
+    let p = c.parse-s in
+    let bs = c.args.src.now in
+    let w = c.writes in
+    let h : writes_these (store_of (state_in bs)) bs ≡ true = ap (λ (s : Store). writes_these s bs) (sym p.ensures) ∙ sym w.ensures ∙ c.if-writes.true in
     ap (λ (s : Store). record { outcome = Done; store = s }) p.ensures ∙ read_yes bs h (store_of (fresh full))
 
-fresh-store-requires : tie.Need-fresh-store-requires
+fresh-store-requires : tie.Need-fresh_store-none-requires
 fresh-store-requires c κs = search rules
 
 refuse-requires : tie.Need-refuse-requires
 refuse-requires c κs = search rules
 
-returns_2 : tie.Need-returns-2
+returns_2 : tie.Need-returns
 returns_2 c =
-    let e = c.before.before in
-    let p = e.before.before.parse in
-    let bs = e.before.before.before.before.args.src.now in
-    let w = e.before.writes in
-    let h : writes_these (store_of (state_in bs)) bs ≡ false = ap (λ (s : Store). writes_these s bs) (sym p.ensures) ∙ sym w.ensures ∙ e.if1.false in
-    c.refuse.ensures ∙ ap (λ (s : Store). refused_by s 14) c.before.fresh-store.ensures ∙ read_no bs h (store_of (fresh full))
+    let e = c in
+    let p = e.parse-s in
+    let bs = e.args.src.now in
+    let w = e.writes in
+    let h : writes_these (store_of (state_in bs)) bs ≡ false = ap (λ (s : Store). writes_these s bs) (sym p.ensures) ∙ sym w.ensures ∙ e.if-writes.false in
+    c.refuse.ensures ∙ ap (λ (s : Store). refused_by s 14) c.fresh_store-none.ensures ∙ read_no bs h (store_of (fresh full))
 
 pub read_spec : {M : Type 1} → statement M
-read_spec =
-    tie.close
-    (tie.spec
-    parse-requires
-    writes-requires
-    returns
-    fresh-store-requires
-    refuse-requires
-    returns_2)
+read_spec = tie.close (tie.spec parse-requires writes-requires returns fresh-store-requires refuse-requires returns_2)

@@ -11,74 +11,53 @@ use Rattle.snapshot_read.proofs.writes.Statement.{statement}
 use Rattle.snapshot_read.proofs.writes.Tie as tie
 
 -- the room is that of the longest
-full : (w : tie.After-write) → length w.before.before.room.result ≡ longest_snapshot
+full : (w : tie.After-write-written) → length w.room-out.result ≡ longest_snapshot
 full w = search rules
 
-room-requires : tie.Need-room-requires
+room-requires : tie.Need-room-out-requires
 room-requires c κs = search rules
 
-slice-aggregate-write : tie.Need-slice-aggregate-write
+slice-aggregate-write : tie.Need-slice_bounds-write-end
 slice-aggregate-write c = search rules
 
-write-requires : tie.Need-write-requires
+write-requires : tie.Need-write-written-requires
 write-requires c κs = search rules
 
-enum_told : tie.Need-enum-told
+enum_told : tie.Need-enum_told-1
 enum_told c = search rules
 
-enum-known-written : tie.Need-enum-known-written
+enum-known-written : tie.Need-enum_known-written
 enum-known-written c = search rules
 
-sub_same : tie.Need-overflow-sub-same
+sub_same : tie.Need-slice_bounds-same-count
 sub_same c = search rules
 
-part-same-start : tie.Need-slice-bounds-same-start
+part-same-start : tie.Need-slice_bounds-same-start
 part-same-start c = search rules
 
-part-same-end : tie.Need-slice-bounds-same-end
+part-same-end : tie.Need-slice_bounds-same-end
 part-same-end c =
-    let g = c.before.before.written.given in
-    let w = c.before.before.before.before.before in
-    let r = w.before.before.room.result in
-    let s = w.before.before.before.before.args.s in
-    let fits = full w in
-    omega (arith, w.write.auto.1.0, bytes_most s (length r) fits g.0.0 (sym w.write.ensures.0 ∙ g.1))
+    let fits = full c.before.before in
+    let e = sym c.write-written.ensures.0 ∙ c.in-Bytes.is in
+    omega (arith, c.write-written.auto.out, bytes_most c.args.s (length c.room-out.result) fits c.in-Bytes.n e)
 
 same-requires : tie.Need-same-requires
 same-requires c κs = search rules
 
-returns : tie.Need-returns
+returns : tie.Need-returns-in-Refused
 returns c =
-    let w = c.before.before.before in
-    let a = w.before.before.before.before.args in
-    let r = w.before.before.room.result in
-    let g = c.enum_told.given in
-    sym (ill a.s a.src.now (refused_ill a.s (length r) (full w) g.0.0 (sym w.write.ensures.0 ∙ g.1)))
+    let a = c.args in
+    sym (ill a.s a.src.now (refused_ill a.s (length c.room-out.result) (full c.before.before) c.in-Refused.field-0 (sym c.write-written.ensures.0 ∙ c.in-Refused.is)))
 
-returns_2 : tie.Need-returns-2
+returns_2 : tie.Need-returns-in-Bytes
 returns_2 c =
-    let g = c.before.before.before.before.written.given in
-    let w = c.before.before.before.before.before.before.before in
-    let a = w.before.before.before.before.args in
-    let r = w.before.before.room.result in
-    let n = g.0.0 in
-    let fits = full w in
-    let e = sym w.write.ensures.0 ∙ g.1 in
-    let part = bytes_written a.s (length r) fits n e r w.write.new.1.0 w.write.ensures.1 in
+    let a = c.args in
+    let r = c.room-out.result in
+    let n = c.in-Bytes.n in
+    let fits = full c.before.before.before.before in
+    let e = sym c.write-written.ensures.0 ∙ c.in-Bytes.is in
+    let part = bytes_written a.s (length r) fits n e r c.write-written.new.out c.write-written.ensures.1 in
     c.same.ensures ∙ ap (λ (bs : List ℕ). same_bytes bs a.src.now) part ∙ sym (well a.s a.src.now (bytes_well a.s (length r) fits n e))
 
 pub writes_spec : {M : Type 1} → statement M
-writes_spec =
-    tie.close
-    (tie.spec
-    room-requires
-    slice-aggregate-write
-    write-requires
-    enum_told
-    enum-known-written
-    sub_same
-    part-same-start
-    part-same-end
-    same-requires
-    returns
-    returns_2)
+writes_spec = tie.close (tie.spec room-requires slice-aggregate-write write-requires enum_told enum-known-written sub_same part-same-start part-same-end same-requires returns returns_2)

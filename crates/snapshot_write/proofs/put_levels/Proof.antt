@@ -70,336 +70,303 @@ head_room start two level out a b c = omega arith
 room_left : (next x rest left start all level out₀ out : ℕ) → left ≡ x + rest → next + left ≡ start + 2 + all → level ≡ 2 + all → start + level ≤ out₀ → out ≡ out₀ → next + x ≤ out
 room_left next x rest left start all level out₀ out a b c d e = omega arith
 
-abbrev invariant-loop2 : tie.invariant-loop2
+abbrev invariant-loop2 : tie.invariant-loop-j
 invariant-loop2 out₀ at files counts numbers next₀ from level n to places j₀ out next j =
     (j ≤ n) × (length out ≡ length out₀)
     × (next + length (join (at_places files from places j n)) ≡ next₀ + length (join (at_places files from places 0 n)))
     × (put out next (join (at_places files from places j n)) ≡ put out₀ next₀ (join (at_places files from places 0 n)))
 
-abbrev decreases-loop2 : tie.decreases-loop2
+abbrev decreases-loop2 : tie.decreases-loop-j
 decreases-loop2 out₀ at files counts numbers next₀ from level n to places j₀ out next j = n - j
 
-abbrev invariant-loop : tie.invariant-loop
+abbrev invariant-loop : tie.invariant-loop-level
 invariant-loop out₀ at files counts numbers next₀ from₀ level₀ out next from level =
     (level ≤ level_count) × (from + sum (drop level counts) ≡ sum counts) × (length out ≡ length out₀)
     × (next + length (join (levels_from files counts from level)) ≡ at + length (join (levels_from files counts 0 0)))
     × (put out next (join (levels_from files counts from level)) ≡ put out₀ at (join (levels_from files counts 0 0)))
 
-abbrev decreases-loop : tie.decreases-loop
+abbrev decreases-loop : tie.decreases-loop-level
 decreases-loop out₀ at files counts numbers next₀ from₀ level₀ out next from level = level_count - level
 
-numbers-of-requires : tie.Need-numbers-of-requires invariant-loop2 decreases-loop2 invariant-loop decreases-loop
+numbers-of-requires : tie.Need-numbers_of-numbers-requires invariant-loop2 decreases-loop2 invariant-loop decreases-loop
 numbers-of-requires c κs = search rules
 
-loop-holds : tie.Need-loop-init invariant-loop2 decreases-loop2 invariant-loop decreases-loop
+loop-holds : tie.Need-loop-level-init invariant-loop2 decreases-loop2 invariant-loop decreases-loop
 loop-holds c = (omega arith, omega arith, refl, refl, refl)
 
-mul-n : tie.Need-overflow-mul-n invariant-loop2 decreases-loop2 invariant-loop decreases-loop
+mul-n : tie.Need-offset_bounds-counts-level invariant-loop2 decreases-loop2 invariant-loop decreases-loop
 mul-n c = omega arith
 
-array-read-n : tie.Need-array-read-n invariant-loop2 decreases-loop2 invariant-loop decreases-loop
-array-read-n c = c.loop-test.true
+array-read-n : tie.Need-bounds-counts-level invariant-loop2 decreases-loop2 invariant-loop decreases-loop
+array-read-n c = c.loop-level-test.true
 
 -- the level's count, and those after it
-turn : (c : tie.In-loop invariant-loop2 decreases-loop2 invariant-loop decreases-loop) → let counts = c.before.before.before.before.args.t4 in let level = c.before.loop.level in sum (drop level counts) ≡ get_or counts level 0 + sum (drop (level + 1) counts)
+turn : (c : tie.In-loop-level invariant-loop2 decreases-loop2 invariant-loop decreases-loop) → let counts = c.args.counts in let level = c.loop-level.level in sum (drop level counts) ≡ get_or counts level 0 + sum (drop (level + 1) counts)
 turn c =
-    let counts = c.before.before.before.before.args.t4 in
+    let counts = c.args.counts in
     let q : length counts ≡ level_count = search rules in
-    sum_turn counts c.before.loop.level (rw q c.loop-test.true)
+    sum_turn counts c.loop-level.level (rw q c.loop-level-test.true)
 
 -- the level's files are among those of all levels, which have room
-room : (c : tie.In-loop invariant-loop2 decreases-loop2 invariant-loop decreases-loop) → let a = c.before.before.before.before.args in let l = c.before.loop in (l.from + get_or a.t4 l.level 0 ≤ sum a.t4) × (sum a.t4 ≤ max_files)
+room : (c : tie.In-loop-level invariant-loop2 decreases-loop2 invariant-loop decreases-loop) → let a = c.args in let l = c.loop-level in (l.from + get_or a.counts l.level 0 ≤ sum a.counts) × (sum a.counts ≤ max_files)
 room c =
     let s = c.before.before.before.before in
     let a = s.args in
-    let l = c.before.loop in
-    (among l.from _ _ _ _ l.invariant.1 (turn c), ((levels.well_says a.t3 a.t4).0 s.requires.0).sound.room)
+    let l = c.loop-level in
+    (among l.from _ _ _ _ l.invariant.1 (turn c), ((levels.well_says a.files a.counts).0 s.requires.0).sound.room)
 
 -- the level, and those after it
-next_level : (c : tie.In-loop invariant-loop2 decreases-loop2 invariant-loop decreases-loop) → let a = c.before.before.before.before.args in let l = c.before.loop in let n = get_or a.t4 l.level 0 in
-    levels_from a.t3 a.t4 l.from l.level ≡ write_level (run l.from (l.from + n) a.t3) ∷ levels_from a.t3 a.t4 (l.from + n) (l.level + 1)
+next_level : (c : tie.In-loop-level invariant-loop2 decreases-loop2 invariant-loop decreases-loop) → let a = c.args in let l = c.loop-level in let n = get_or a.counts l.level 0 in
+    levels_from a.files a.counts l.from l.level ≡ write_level (run l.from (l.from + n) a.files) ∷ levels_from a.files a.counts (l.from + n) (l.level + 1)
 next_level c =
-    let a = c.before.before.before.before.args in
-    let l = c.before.loop in
-    let q : length a.t4 ≡ level_count = search rules in
-    ap (map write_level) (levels.levels_turn a.t3 a.t4 l.level l.from (omega arith))
+    let a = c.args in
+    let l = c.loop-level in
+    let q : length a.counts ≡ level_count = search rules in
+    ap (map write_level) (levels.levels_turn a.files a.counts l.level l.from (omega arith))
 
 -- the output has room for the level and those after it
-written : (c : tie.In-loop invariant-loop2 decreases-loop2 invariant-loop decreases-loop) → let a = c.before.before.before.before.args in let l = c.before.loop in let n = get_or a.t4 l.level 0 in
-    (2 ≤ length (write_level (run l.from (l.from + n) a.t3)))
-    × (l.next + length (write_level (run l.from (l.from + n) a.t3)) ≤ length l.out)
-    × (length (join (levels_from a.t3 a.t4 l.from l.level))
-    ≡ length (write_level (run l.from (l.from + n) a.t3)) + length (join (levels_from a.t3 a.t4 (l.from + n) (l.level + 1))))
+written : (c : tie.In-loop-level invariant-loop2 decreases-loop2 invariant-loop decreases-loop) → let a = c.args in let l = c.loop-level in let n = get_or a.counts l.level 0 in
+    (2 ≤ length (write_level (run l.from (l.from + n) a.files)))
+    × (l.next + length (write_level (run l.from (l.from + n) a.files)) ≤ length l.out)
+    × (length (join (levels_from a.files a.counts l.from l.level))
+    ≡ length (write_level (run l.from (l.from + n) a.files)) + length (join (levels_from a.files a.counts (l.from + n) (l.level + 1))))
 written c =
     let s = c.before.before.before.before in
     let a = s.args in
-    let l = c.before.loop in
-    let n = get_or a.t4 l.level 0 in
+    let l = c.loop-level in
+    let n = get_or a.counts l.level 0 in
     let r = room c in
     let h = s.requires.1 in
-    let fs = run l.from (l.from + n) a.t3 in
-    let size = part_length (write_level fs) (levels_from a.t3 a.t4 (l.from + n) (l.level + 1)) (levels_from a.t3 a.t4 l.from l.level) (next_level c) in
+    let fs = run l.from (l.from + n) a.files in
+    let size = part_length (write_level fs) (levels_from a.files a.counts (l.from + n) (l.level + 1)) (levels_from a.files a.counts l.from l.level) (next_level c) in
     (omega (arith, level_long fs), omega arith, size)
 
-add-to : tie.Need-overflow-add-to invariant-loop2 decreases-loop2 invariant-loop decreases-loop
+add-to : tie.Need-overflow_add-to invariant-loop2 decreases-loop2 invariant-loop decreases-loop
 add-to c = let r = room c in fits _ (le_trans r.0 r.1)
 
-mul-by-number : tie.Need-overflow-mul-by-number invariant-loop2 decreases-loop2 invariant-loop decreases-loop
+mul-by-number : tie.Need-offset_bounds-numbers-from invariant-loop2 decreases-loop2 invariant-loop decreases-loop
 mul-by-number c = let r = room c in word_at _ (le_trans (le-add_right _ _) (le_trans r.0 r.1))
 
-sub-by-number : tie.Need-overflow-sub-by-number invariant-loop2 decreases-loop2 invariant-loop decreases-loop
+sub-by-number : tie.Need-slice_bounds-by_number-count invariant-loop2 decreases-loop2 invariant-loop decreases-loop
 sub-by-number c = le-add_right _ _
 
-part-by-number-start : tie.Need-slice-bounds-by-number-start invariant-loop2 decreases-loop2 invariant-loop decreases-loop
+part-by-number-start : tie.Need-slice_bounds-by_number-start invariant-loop2 decreases-loop2 invariant-loop decreases-loop
 part-by-number-start c =
-    let r = room c.before in
+    let r = room c in
     omega arith
 
-part-by-number-end : tie.Need-slice-bounds-by-number-end invariant-loop2 decreases-loop2 invariant-loop decreases-loop
+part-by-number-end : tie.Need-slice_bounds-by_number-end invariant-loop2 decreases-loop2 invariant-loop decreases-loop
 part-by-number-end c =
-    let r = room c.before in
+    let r = room c in
     omega arith
 
-by-number-requires : tie.Need-by-number-requires invariant-loop2 decreases-loop2 invariant-loop decreases-loop
+by-number-requires : tie.Need-by_number-places-requires invariant-loop2 decreases-loop2 invariant-loop decreases-loop
 by-number-requires c κs = search rules
 
-put-number-requires : tie.Need-put-number-requires invariant-loop2 decreases-loop2 invariant-loop decreases-loop
+put-number-requires : tie.Need-put_number-requires invariant-loop2 decreases-loop2 invariant-loop decreases-loop
 put-number-requires c κs =
-    let w = written c.before.before.before.before in
+    let w = written c.before.before.before in
     omega arith
 
-add-next : tie.Need-overflow-add-next invariant-loop2 decreases-loop2 invariant-loop decreases-loop
+add-next : tie.Need-overflow_add-next invariant-loop2 decreases-loop2 invariant-loop decreases-loop
 add-next c =
-    let w = written c.before.before.before.before.before.before.before in
+    let w = written c.before.before.before.before.before.before in
     omega arith
 
 -- the numbers that are lent are those of the level's files
-lent : (c : tie.After-slice-known2 invariant-loop2 decreases-loop2 invariant-loop decreases-loop) → let o = c.before.before.before.before.before.before.before in let a = o.before.before.before.before.args in let l = o.before.loop in let n = get_or a.t4 l.level 0 in
-    take (l.from + n - l.from) (drop l.from o.before.before.Numbers-of.result) ≡ numbers (run l.from (l.from + n) a.t3)
+lent : (c : tie.After-slice_known-in-loop-level-1 invariant-loop2 decreases-loop2 invariant-loop decreases-loop) → let o = c.before.before.before.before.before.before in let a = o.args in let l = o.loop-level in let n = get_or a.counts l.level 0 in
+    take (l.from + n - l.from) (drop l.from o.numbers_of-numbers.result) ≡ numbers (run l.from (l.from + n) a.files)
 lent c =
-    let o = c.before.before.before.before.before.before.before in
-    let a = o.before.before.before.before.args in
-    let l = o.before.loop in
-    let n = get_or a.t4 l.level 0 in
-    let column = o.before.before.Numbers-of in
-    let q : length a.t3 ≡ max_files = search rules in
+    let o = c.before.before.before.before.before.before in
+    let a = o.args in
+    let l = o.loop-level in
+    let n = get_or a.counts l.level 0 in
+    let column = o.numbers_of-numbers in
+    let q : length a.files ≡ max_files = search rules in
     let size : l.from + n - l.from ≡ n = omega arith in
     ap (λ (k : ℕ). take k (drop l.from column.result)) size
-    ∙ lent_numbers a.t3 (replicate max_files 0) column.result l.from n q (length-replicate {A = ℕ} max_files 0) column.ensures
+    ∙ lent_numbers a.files (replicate max_files 0) column.result l.from n q (length-replicate {A = ℕ} max_files 0) column.ensures
 
 -- what is written of the level: its count, then the files at the places
-level_bytes : (c : tie.After-slice-known2 invariant-loop2 decreases-loop2 invariant-loop decreases-loop) → let o = c.before.before.before.before.before.before.before in let a = o.before.before.before.before.args in let l = o.before.loop in let n = get_or a.t4 l.level 0 in
-    write_level (run l.from (l.from + n) a.t3) ≡ bytes count_long n ++ join (at_places a.t3 l.from c.before.before.before.before.by_number.result 0 n)
+level_bytes : (c : tie.After-slice_known-in-loop-level-1 invariant-loop2 decreases-loop2 invariant-loop decreases-loop) → let o = c.before.before.before.before.before.before in let a = o.args in let l = o.loop-level in let n = get_or a.counts l.level 0 in
+    write_level (run l.from (l.from + n) a.files) ≡ bytes count_long n ++ join (at_places a.files l.from c.by_number-places.result 0 n)
 level_bytes c =
-    let o = c.before.before.before.before.before.before.before in
-    let a = o.before.before.before.before.args in
-    let l = o.before.loop in
-    let n = get_or a.t4 l.level 0 in
-    let places = c.before.before.before.before.by_number_lem in
+    let o = c.before.before.before.before.before.before in
+    let a = o.args in
+    let l = o.loop-level in
+    let n = get_or a.counts l.level 0 in
+    let places = c.by_number-places in
     let r = room o in
-    let q : length a.t3 ≡ max_files = search rules in
-    level_is a.t3 l.from n (omega arith)
+    let q : length a.files ≡ max_files = search rules in
+    level_is a.files l.from n (omega arith)
     ∙ ap (λ (x : List (List ℕ)). bytes count_long n ++ join x)
-    (sym (places_written a.t3 l.from n (omega arith) (take (l.from + n - l.from) (drop l.from o.before.before.Numbers-of.result)) (lent c) (replicate max_files 0) places.result (omega arith) places.ensures))
+    (sym (places_written a.files l.from n (omega arith) (take (l.from + n - l.from) (drop l.from o.numbers_of-numbers.result)) (lent c) (replicate max_files 0) places.result (omega arith) places.ensures))
 
-level_size : (c : tie.After-slice-known2 invariant-loop2 decreases-loop2 invariant-loop decreases-loop) → let o = c.before.before.before.before.before.before.before in let a = o.before.before.before.before.args in let l = o.before.loop in let n = get_or a.t4 l.level 0 in
-    length (write_level (run l.from (l.from + n) a.t3)) ≡ 2 + length (join (at_places a.t3 l.from c.before.before.before.before.by_number.result 0 n))
+level_size : (c : tie.After-slice_known-in-loop-level-1 invariant-loop2 decreases-loop2 invariant-loop decreases-loop) → let o = c.before.before.before.before.before.before in let a = o.args in let l = o.loop-level in let n = get_or a.counts l.level 0 in
+    length (write_level (run l.from (l.from + n) a.files)) ≡ 2 + length (join (at_places a.files l.from c.by_number-places.result 0 n))
 level_size c =
-    let o = c.before.before.before.before.before.before.before in
-    let a = o.before.before.before.before.args in
-    let l = o.before.loop in
-    let n = get_or a.t4 l.level 0 in
-    let x = join (at_places a.t3 l.from c.before.before.before.before.by_number.result 0 n) in
+    let o = c.before.before.before.before.before.before in
+    let a = o.args in
+    let l = o.loop-level in
+    let n = get_or a.counts l.level 0 in
+    let x = join (at_places a.files l.from c.by_number-places.result 0 n) in
     omega (arith, ap length (level_bytes c), length-append (bytes count_long n) x, bytes_length 2 n)
 
 -- each place is one of the level's
-below : (c : tie.After-slice-known2 invariant-loop2 decreases-loop2 invariant-loop decreases-loop) → let o = c.before.before.before.before.before.before.before in let n = get_or o.before.before.before.before.args.t4 o.before.loop.level 0 in (j : ℕ) → j < n → get_or c.before.before.before.before.by_number.result j 0 < n
+below : (c : tie.After-slice_known-in-loop-level-1 invariant-loop2 decreases-loop2 invariant-loop decreases-loop) → let o = c.before.before.before.before.before.before in let n = get_or o.args.counts o.loop-level.level 0 in (j : ℕ) → j < n → get_or c.by_number-places.result j 0 < n
 below c j h =
-    let o = c.before.before.before.before.before.before.before in
-    let a = o.before.before.before.before.args in
-    let l = o.before.loop in
-    let n = get_or a.t4 l.level 0 in
-    let places = c.before.before.before.before.by_number_lem in
+    let o = c.before.before.before.before.before.before in
+    let a = o.args in
+    let l = o.loop-level in
+    let n = get_or a.counts l.level 0 in
+    let places = c.by_number-places in
     let r = room o in
-    let q : length a.t3 ≡ max_files = search rules in
-    place_below a.t3 l.from n (omega arith) (take (l.from + n - l.from) (drop l.from o.before.before.Numbers-of.result)) (lent c) (replicate max_files 0) places.result (omega arith) places.ensures j h
+    let q : length a.files ≡ max_files = search rules in
+    place_below a.files l.from n (omega arith) (take (l.from + n - l.from) (drop l.from o.numbers_of-numbers.result)) (lent c) (replicate max_files 0) places.result (omega arith) places.ensures j h
 
-loop2-holds : tie.Need-loop2-init invariant-loop2 decreases-loop2 invariant-loop decreases-loop
+loop2-holds : tie.Need-loop-j-init invariant-loop2 decreases-loop2 invariant-loop decreases-loop
 loop2-holds c = (omega arith, refl, refl, refl)
 
 -- the next place, and the file there, are of the array
-within : (c : tie.In-loop2 invariant-loop2 decreases-loop2 invariant-loop decreases-loop) → let k = c.before.before in let o = k.before.before.before.before.before.before.before in
-    (c.before.loop2.j < max_files) × (o.before.loop.from + get_or k.before.before.before.before.by_number.result c.before.loop2.j 0 < max_files)
-within c =
-    let k = c.before.before in
-    let o = k.before.before.before.before.before.before.before in
+within : (c : tie.At-loop-j invariant-loop2 decreases-loop2 invariant-loop decreases-loop) → let k = c.before in let o = k.before.before.before.before.before.before in
+    c.loop-j.j < get_or o.args.counts o.loop-level.level 0 → (c.loop-j.j < max_files) × (o.loop-level.from + get_or k.by_number-places.result c.loop-j.j 0 < max_files)
+within c h =
+    let k = c.before in
+    let o = k.before.before.before.before.before.before in
     let r = room o in
-    let from = o.before.loop.from in
-    let n = get_or o.before.before.before.before.args.t4 o.before.loop.level 0 in
-    let j = c.before.loop2.j in
-    (lt_of_le_of_lt (le-add_left j from) (in_room j from n _ c.loop2-test.true r.0 r.1), in_room _ from n _ (below k j c.loop2-test.true) r.0 r.1)
+    let from = o.loop-level.from in
+    let n = get_or o.args.counts o.loop-level.level 0 in
+    let j = c.loop-j.j in
+    (lt_of_le_of_lt (le-add_left j from) (in_room j from n _ h r.0 r.1), in_room _ from n _ (below k j h) r.0 r.1)
 
-mul-p : tie.Need-overflow-mul-p invariant-loop2 decreases-loop2 invariant-loop decreases-loop
-mul-p c = word_at _ (le_of_lt (within c).0)
+mul-p : tie.Need-offset_bounds-places-j invariant-loop2 decreases-loop2 invariant-loop decreases-loop
+mul-p c = word_at _ (le_of_lt (within c.before c.loop-j-test.true).0)
 
-array-read-p : tie.Need-array-read-p invariant-loop2 decreases-loop2 invariant-loop decreases-loop
-array-read-p c = (within c).0
+array-read-p : tie.Need-bounds-places-j invariant-loop2 decreases-loop2 invariant-loop decreases-loop
+array-read-p c = (within c.before c.loop-j-test.true).0
 
-add-f : tie.Need-overflow-add-f invariant-loop2 decreases-loop2 invariant-loop decreases-loop
-add-f c = fits _ (le_of_lt (within c).1)
+add-f : tie.Need-overflow_add-f invariant-loop2 decreases-loop2 invariant-loop decreases-loop
+add-f c = fits _ (le_of_lt (within c.before c.loop-j-test.true).1)
 
-mul-f : tie.Need-overflow-mul-f invariant-loop2 decreases-loop2 invariant-loop decreases-loop
-mul-f c = record_at _ (within c).1
+mul-f : tie.Need-offset_bounds-files-from invariant-loop2 decreases-loop2 invariant-loop decreases-loop
+mul-f c = record_at _ (within c.before c.loop-j-test.true).1
 
-array-copy-out-f : tie.Need-array-copy-out-f invariant-loop2 decreases-loop2 invariant-loop decreases-loop
-array-copy-out-f c = (within c).1
+array-copy-out-f : tie.Need-bounds-files-from invariant-loop2 decreases-loop2 invariant-loop decreases-loop
+array-copy-out-f c = (within c.before c.loop-j-test.true).1
 
 -- the file at the next place, and those after it
-next_file : (c : tie.In-loop2 invariant-loop2 decreases-loop2 invariant-loop decreases-loop) → let k = c.before.before in let o = k.before.before.before.before.before.before.before in let a = o.before.before.before.before.args in let l = o.before.loop in
-    let n = get_or a.t4 l.level 0 in let places = k.before.before.before.before.by_number.result in let j = c.before.loop2.j in
-    at_places a.t3 l.from places j n ≡ write_file (file_of (get_or a.t3 (l.from + get_or places j 0) past)) ∷ at_places a.t3 l.from places (j + 1) n
+next_file : (c : tie.In-loop-j invariant-loop2 decreases-loop2 invariant-loop decreases-loop) → let k = c.before.before in let o = k.before.before.before.before.before.before in let a = o.args in let l = o.loop-level in
+    let n = get_or a.counts l.level 0 in let places = k.by_number-places.result in let j = c.loop-j.j in
+    at_places a.files l.from places j n ≡ write_file (file_of (get_or a.files (l.from + get_or places j 0) past)) ∷ at_places a.files l.from places (j + 1) n
 next_file c =
     let k = c.before.before in
-    let o = k.before.before.before.before.before.before.before in
-    let a = o.before.before.before.before.args in
-    let l = o.before.loop in
-    let n = get_or a.t4 l.level 0 in
+    let o = k.before.before.before.before.before.before in
+    let a = o.args in
+    let l = o.loop-level in
+    let n = get_or a.counts l.level 0 in
     let r = room o in
-    let places = k.before.before.before.before.by_number.result in
+    let places = k.by_number-places.result in
     let q : length places ≡ max_files = search rules in
-    drop_view (λ (p : ℕ). write_file (file_of (get_or a.t3 (l.from + p) past))) c.before.loop2.j n places 0 (omega arith) (omega arith)
+    drop_view (λ (p : ℕ). write_file (file_of (get_or a.files (l.from + p) past))) c.loop-j.j n places 0 (omega arith) (omega arith)
 
-here : (c : tie.In-loop2 invariant-loop2 decreases-loop2 invariant-loop decreases-loop) → let k = c.before.before in let o = k.before.before.before.before.before.before.before in let a = o.before.before.before.before.args in let l = o.before.loop in
-    let n = get_or a.t4 l.level 0 in let places = k.before.before.before.before.by_number.result in let j = c.before.loop2.j in
-    length (join (at_places a.t3 l.from places j n)) ≡ length (write_file (file_of (get_or a.t3 (l.from + get_or places j 0) past))) + length (join (at_places a.t3 l.from places (j + 1) n))
+here : (c : tie.In-loop-j invariant-loop2 decreases-loop2 invariant-loop decreases-loop) → let k = c.before.before in let o = k.before.before.before.before.before.before in let a = o.args in let l = o.loop-level in
+    let n = get_or a.counts l.level 0 in let places = k.by_number-places.result in let j = c.loop-j.j in
+    length (join (at_places a.files l.from places j n)) ≡ length (write_file (file_of (get_or a.files (l.from + get_or places j 0) past))) + length (join (at_places a.files l.from places (j + 1) n))
 here c =
     let k = c.before.before in
-    let o = k.before.before.before.before.before.before.before in
-    let a = o.before.before.before.before.args in
-    let l = o.before.loop in
-    let n = get_or a.t4 l.level 0 in
-    let places = k.before.before.before.before.by_number.result in
-    let j = c.before.loop2.j in
-    part_length (write_file (file_of (get_or a.t3 (l.from + get_or places j 0) past))) (at_places a.t3 l.from places (j + 1) n) (at_places a.t3 l.from places j n) (next_file c)
+    let o = k.before.before.before.before.before.before in
+    let a = o.args in
+    let l = o.loop-level in
+    let n = get_or a.counts l.level 0 in
+    let places = k.by_number-places.result in
+    let j = c.loop-j.j in
+    part_length (write_file (file_of (get_or a.files (l.from + get_or places j 0) past))) (at_places a.files l.from places (j + 1) n) (at_places a.files l.from places j n) (next_file c)
 
 -- the output has room for it
-left : (c : tie.In-loop2 invariant-loop2 decreases-loop2 invariant-loop decreases-loop) → let k = c.before.before in let o = k.before.before.before.before.before.before.before in let a = o.before.before.before.before.args in
-    let places = k.before.before.before.before.by_number.result in let m = c.before.loop2 in
-    m.next + length (write_file (file_of (get_or a.t3 (o.before.loop.from + get_or places m.j 0) past))) ≤ length m.out
+left : (c : tie.In-loop-j invariant-loop2 decreases-loop2 invariant-loop decreases-loop) → let k = c.before.before in let o = k.before.before.before.before.before.before in let a = o.args in
+    let places = k.by_number-places.result in let m = c.loop-j in
+    m.next + length (write_file (file_of (get_or a.files (o.loop-level.from + get_or places m.j 0) past))) ≤ length m.out
 left c =
     let k = c.before.before in
-    let o = k.before.before.before.before.before.before.before in
-    let m = c.before.loop2 in
-    room_left _ _ _ _ o.before.loop.next _ _ _ _ (here c) m.invariant.2 (level_size k) (written o).1 (m.invariant.1 ∙ k.before.before.put-number.auto.0)
+    let o = k.before.before.before.before.before.before in
+    let m = c.loop-j in
+    room_left _ _ _ _ o.loop-level.next _ _ _ _ (here c) m.invariant.2 (level_size k) (written o).1 (m.invariant.1 ∙ k.put_number.auto.out)
 
-put-file-requires : tie.Need-put-file-requires invariant-loop2 decreases-loop2 invariant-loop decreases-loop
+put-file-requires : tie.Need-put_file-next-requires invariant-loop2 decreases-loop2 invariant-loop decreases-loop
 put-file-requires c κs =
     let t = c.before.before in
     let k = t.before.before in
-    let o = k.before.before.before.before.before.before.before in
-    let s = o.before.before.before.before in
+    let o = k.before.before.before.before.before.before in
+    let s = o in
     let a = s.args in
-    let j = t.before.loop2.j in
-    let from = o.before.loop.from in
-    let q : length a.t3 ≡ max_files = search rules in
-    (level_record a.t3 a.t4 (from + get_or k.before.before.before.before.by_number.result j 0) q s.requires.0 (in_sum _ from _ _ (below k j t.loop2-test.true) (room o).0), left t)
+    let j = t.loop-j.j in
+    let from = o.loop-level.from in
+    let q : length a.files ≡ max_files = search rules in
+    (level_record a.files a.counts (from + get_or k.by_number-places.result j 0) q s.requires.0 (in_sum _ from _ _ (below k j t.loop-j-test.true) (room o).0), left t)
 
-add-j : tie.Need-overflow-add-j invariant-loop2 decreases-loop2 invariant-loop decreases-loop
-add-j c = fits _ (one_more_lem _ _ (within c.before.before.before.before.before).0)
+add-j : tie.Need-overflow_add-j invariant-loop2 decreases-loop2 invariant-loop decreases-loop
+add-j c = fits _ (one_more_lem _ _ (within c.before.before.before.before.before.before c.loop-j-test.true).0)
 
-loop2-less : tie.Need-loop2-smaller invariant-loop2 decreases-loop2 invariant-loop decreases-loop
-loop2-less c = fewer _ _ c.before.before.before.before.before.loop2-test.true
+loop2-less : tie.Need-loop-j-smaller invariant-loop2 decreases-loop2 invariant-loop decreases-loop
+loop2-less c = fewer _ _ c.loop-j-test.true
 
-loop2-again : tie.Need-loop2-preserved invariant-loop2 decreases-loop2 invariant-loop decreases-loop
+loop2-again : tie.Need-loop-j-preserved invariant-loop2 decreases-loop2 invariant-loop decreases-loop
 loop2-again c =
     let t = c.before.before.before.before.before in
-    let k = t.before.before in
-    let o = k.before.before.before.before.before.before.before in
-    let s = o.before.before.before.before in
-    let m = t.before.loop2 in
-    let f = c.before.before.put-file in
-    let places = k.before.before.before.before.by_number.result in
-    let n = get_or s.args.t4 o.before.loop.level 0 in
-    let from = o.before.loop.from in
-    let x = write_file (file_of (get_or s.args.t3 (from + get_or places m.j 0) past)) in
+    let k = t in
+    let o = k in
+    let s = o in
+    let m = t.loop-j in
+    let f = c.put_file-next in
+    let places = k.by_number-places.result in
+    let n = get_or s.args.counts o.loop-level.level 0 in
+    let from = o.loop-level.from in
+    let x = write_file (file_of (get_or s.args.files (from + get_or places m.j 0) past)) in
     let e = f.ensures in
-    let laid = part_laid x (at_places s.args.t3 from places (m.j + 1) n) (at_places s.args.t3 from places m.j n) (next_file t) m.out f.new.0 m.next f.result (left t) e.1 e.0 in
-    (one_more_lem _ _ t.loop2-test.true, f.auto.0 ∙ m.invariant.1, passes _ _ _ _ _ _ e.0 (here t) m.invariant.2, laid ∙ m.invariant.3)
+    let laid = part_laid x (at_places s.args.files from places (m.j + 1) n) (at_places s.args.files from places m.j n) (next_file t) m.out f.new.out m.next f.result (left t) e.1 e.0 in
+    (one_more_lem _ _ t.loop-j-test.true, f.auto.out ∙ m.invariant.1, passes _ _ _ _ _ _ e.0 (here t) m.invariant.2, laid ∙ m.invariant.3)
 
-add-level : tie.Need-overflow-add-level invariant-loop2 decreases-loop2 invariant-loop decreases-loop
+add-level : tie.Need-overflow_add-level invariant-loop2 decreases-loop2 invariant-loop decreases-loop
 add-level c = omega arith
 
-loop-less : tie.Need-loop-smaller invariant-loop2 decreases-loop2 invariant-loop decreases-loop
-loop-less c = fewer level_count _ c.before.before.before.before.before.before.before.before.before.loop-test.true
+loop-less : tie.Need-loop-level-smaller invariant-loop2 decreases-loop2 invariant-loop decreases-loop
+loop-less c = fewer level_count _ c.loop-level-test.true
 
-loop-again : tie.Need-loop-preserved invariant-loop2 decreases-loop2 invariant-loop decreases-loop
+loop-again : tie.Need-loop-level-preserved invariant-loop2 decreases-loop2 invariant-loop decreases-loop
 loop-again c =
     let k = c.before.before in
-    let o = k.before.before.before.before.before.before.before in
-    let s = o.before.before.before.before in
+    let o = k.before.before.before.before.before.before in
+    let s = o in
     let a = s.args in
-    let l = o.before.loop in
-    let m = c.before.loop2 in
-    let n = get_or a.t4 l.level 0 in
-    let places = k.before.before.before.before.by_number.result in
-    let p = k.before.before.put-number in
-    let fs = at_places a.t3 l.from places 0 n in
+    let l = o.loop-level in
+    let m = c.loop-j in
+    let n = get_or a.counts l.level 0 in
+    let places = k.by_number-places.result in
+    let p = k.put_number in
+    let fs = at_places a.files l.from places 0 n in
     let w = written o in
-    let over = view_end (λ (i : ℕ). write_file (file_of (get_or a.t3 (l.from + i) past))) m.j n places m.invariant.0 c.loop2-test.false in
-    let none = none_length (at_places a.t3 l.from places m.j n) over in
-    let ended : m.out ≡ put p.new.0 (l.next + 2) (join fs) = sym (none_laid (at_places a.t3 l.from places m.j n) over m.out m.next) ∙ m.invariant.3 in
+    let over = view_end (λ (i : ℕ). write_file (file_of (get_or a.files (l.from + i) past))) m.j n places m.invariant.0 c.loop-j-test.false in
+    let none = none_length (at_places a.files l.from places m.j n) over in
+    let ended : m.out ≡ put p.new.out (l.next + 2) (join fs) = sym (none_laid (at_places a.files l.from places m.j n) over m.out m.next) ∙ m.invariant.3 in
     let two = bytes_length 2 n in
-    let whole : m.out ≡ put l.out l.next (write_level (run l.from (l.from + n) a.t3)) =
-    put_next l.out p.new.0 m.out l.next (l.next + 2) (bytes count_long n) (join fs) (head_room _ _ _ _ two w.0 w.1) p.ensures (sym (ap (λ (x : ℕ). l.next + x) two)) ended ∙ ap (put l.out l.next) (sym (level_bytes k)) in
-    let next : m.next ≡ l.next + length (write_level (run l.from (l.from + n) a.t3)) = ended_at _ _ l.next _ _ m.invariant.2 none (level_size k) in
-    let laid = part_laid (write_level (run l.from (l.from + n) a.t3)) (levels_from a.t3 a.t4 (l.from + n) (l.level + 1)) (levels_from a.t3 a.t4 l.from l.level) (next_level o)
+    let whole : m.out ≡ put l.out l.next (write_level (run l.from (l.from + n) a.files)) =
+    put_next l.out p.new.out m.out l.next (l.next + 2) (bytes count_long n) (join fs) (head_room _ _ _ _ two w.0 w.1) p.ensures (sym (ap (λ (x : ℕ). l.next + x) two)) ended ∙ ap (put l.out l.next) (sym (level_bytes k)) in
+    let next : m.next ≡ l.next + length (write_level (run l.from (l.from + n) a.files)) = ended_at _ _ l.next _ _ m.invariant.2 none (level_size k) in
+    let laid = part_laid (write_level (run l.from (l.from + n) a.files)) (levels_from a.files a.counts (l.from + n) (l.level + 1)) (levels_from a.files a.counts l.from l.level) (next_level o)
     l.out m.out l.next m.next w.1 whole next in
-    (one_more_lem _ _ o.loop-test.true, moves l.from n _ _ _ l.invariant.1 (turn o), m.invariant.1 ∙ p.auto.0 ∙ l.invariant.2, passes _ _ _ _ _ _ next w.2 l.invariant.3, laid ∙ l.invariant.4)
+    (one_more_lem _ _ o.loop-level-test.true, moves l.from n _ _ _ l.invariant.1 (turn o), m.invariant.1 ∙ p.auto.out ∙ l.invariant.2, passes _ _ _ _ _ _ next w.2 l.invariant.3, laid ∙ l.invariant.4)
 
-same_length : tie.Need-same-length invariant-loop2 decreases-loop2 invariant-loop decreases-loop
+same_length : tie.Need-shape_of-out invariant-loop2 decreases-loop2 invariant-loop decreases-loop
 same_length c = search rules
 
 returns : tie.Need-returns invariant-loop2 decreases-loop2 invariant-loop decreases-loop
 returns c =
-    let l = c.before in
-    let a = l.before.before.before.args in
-    let q : length a.t4 ≡ level_count = search rules in
-    let over = ap (map write_level) (levels.levels_over_lem a.t3 a.t4 l.loop.level l.loop.from (omega arith)) in
-    let none = none_length (levels_from a.t3 a.t4 l.loop.from l.loop.level) over in
-    (omega arith, sym (none_laid (levels_from a.t3 a.t4 l.loop.from l.loop.level) over l.loop.out l.loop.next) ∙ l.loop.invariant.4)
+    let l = c in
+    let a = l.args in
+    let q : length a.counts ≡ level_count = search rules in
+    let over = ap (map write_level) (levels.levels_over_lem a.files a.counts l.loop-level.level l.loop-level.from (omega arith)) in
+    let none = none_length (levels_from a.files a.counts l.loop-level.from l.loop-level.level) over in
+    (omega arith, sym (none_laid (levels_from a.files a.counts l.loop-level.from l.loop-level.level) over l.loop-level.out l.loop-level.next) ∙ l.loop-level.invariant.4)
 
 pub put_levels_spec : {M : Type 1} → statement M
-put_levels_spec =
-    tie.close
-    (tie.spec
-    invariant-loop2
-    decreases-loop2
-    invariant-loop
-    decreases-loop
-    numbers-of-requires
-    loop-holds
-    mul-n
-    array-read-n
-    add-to
-    mul-by-number
-    sub-by-number
-    part-by-number-start
-    part-by-number-end
-    by-number-requires
-    put-number-requires
-    add-next
-    loop2-holds
-    mul-p
-    array-read-p
-    add-f
-    mul-f
-    array-copy-out-f
-    put-file-requires
-    add-j
-    loop2-less
-    loop2-again
-    add-level
-    loop-less
-    loop-again
-    same_length
-    returns)
+put_levels_spec = tie.close (tie.spec invariant-loop2 decreases-loop2 invariant-loop decreases-loop numbers-of-requires loop-holds mul-n array-read-n add-to mul-by-number sub-by-number part-by-number-start part-by-number-end by-number-requires put-number-requires add-next loop2-holds mul-p array-read-p add-f mul-f array-copy-out-f put-file-requires add-j loop2-less loop2-again add-level loop-less loop-again same_length returns)
