@@ -6,16 +6,16 @@ use Rattle.difference_scan.specs.Listing.{counted_by}
 use Rattle.difference_list.proofs.counted.Statement.{statement}
 use Rattle.difference_list.proofs.counted.Tie as tie
 
-returns : tie.Need-returns
+returns : tie.Need-returns-then-kind-eq-SAME
 unfolding counted_by
-returns c = rw c.if1.true
+returns c = rw c.if-kind-eq-SAME.true
 
-add-result : tie.Need-overflow-add-result
+add-result : tie.Need-overflow_add-result
 add-result c = search rules
 
-returns_2 : tie.Need-returns-2
+returns_2 : tie.Need-returns
 unfolding counted_by
-returns_2 c = rw (ne_eqb c.before.args.kind same_kind c.if1.false)
+returns_2 c = rw (ne_eqb c.args.kind same_kind c.if-kind-eq-SAME.false)
 
 pub counted_spec : {M : Type 1} → statement M
 counted_spec = tie.close (tie.spec returns add-result returns_2)

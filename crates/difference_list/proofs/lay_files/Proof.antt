@@ -21,31 +21,29 @@ entries s = let a = s.args in level_entries level_count 0 (drop a.a a.left.now) 
 room : (s : tie.Start) → s.args.at + 2 + length (join (entries s)) ≤ length s.args.out.now
 room s = let h = s.requires.2 in omega (arith, section_long (entries s))
 
-add-lay-levels : tie.Need-overflow-add-lay-levels
+add-lay-levels : tie.Need-overflow_add-at
 add-lay-levels c = search rules
 
-lay-levels-requires : tie.Need-lay-levels-requires
+lay-levels-requires : tie.Need-lay_levels-made-requires
 lay-levels-requires c κs = let s = c.before.before.before.before in (s.requires.0, s.requires.1, room s)
 
-put-number-requires : tie.Need-put-number-requires
+put-number-requires : tie.Need-put_number-requires
 put-number-requires c κs =
-    let m = c.before.before.before in
-    let s = m.before.before.before.before.before in
-    omega (arith, room s, put_keeps s.args.out.now m.lay-levels.new.1.1.1.1.0 (join (entries s)) (s.args.at + 2) (room s) m.lay-levels.ensures.2)
+    let m = c in
+    let s = m.before.before.before.before.before.before.before.before in
+    omega (arith, room s, put_keeps s.args.out.now m.lay_levels-made.new.out (join (entries s)) (s.args.at + 2) (room s) m.lay_levels-made.ensures.2)
 
-same_length : tie.Need-same-length
+same_length : tie.Need-shape_of-out
 same_length c = search rules
 
 returns : tie.Need-returns
 returns c =
-    let d = c.before.before in
-    let m = d.before.before.before.before in
-    let s = m.before.before.before.before.before in
+    let d = c in
+    let m = d in
+    let s = m.before.before.before.before.before.before.before.before.before.before.before in
     let a = s.args in
-    let e = m.lay-levels.ensures in
-    (omega (arith, e.0, section_long (entries s)), front_laid (entries s) a.out.now m.lay-levels.new.1.1.1.1.0 d.put-number.new.0 a.at m.lay-levels.result.listed s.requires.2 e.2 e.1 d.put-number.ensures)
+    let e = m.lay_levels-made.ensures in
+    (omega (arith, e.0, section_long (entries s)), front_laid (entries s) a.out.now m.lay_levels-made.new.out d.put_number.new.out a.at m.lay_levels-made.result.listed s.requires.2 e.2 e.1 d.put_number.ensures)
 
 pub lay_files_spec : {M : Type 1} → statement M
-lay_files_spec =
-    tie.close
-    (tie.spec add-lay-levels lay-levels-requires put-number-requires same_length returns)
+lay_files_spec = tie.close (tie.spec add-lay-levels lay-levels-requires put-number-requires same_length returns)

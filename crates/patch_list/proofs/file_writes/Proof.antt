@@ -19,42 +19,33 @@ short : (s : tie.Start) → length (write_file (file_of s.args.f)) ≤ file_long
 unfolding full
 short s = file_most full (file_of s.args.f) ((well_says s.args.f).0 s.requires).1
 
-slice-aggregate-put-file : tie.Need-slice-aggregate-put-file
+slice-aggregate-put-file : tie.Need-slice_bounds-put_file-end
 slice-aggregate-put-file c = search rules
 
-put-file-requires : tie.Need-put-file-requires
+put-file-requires : tie.Need-put_file-n-requires
 put-file-requires c κs = let s = c.before.before in (s.requires, omega (arith, short s))
 
-sub_same : tie.Need-overflow-sub-same
+sub_same : tie.Need-slice_bounds-same-count
 sub_same c = search rules
 
-part-same-start : tie.Need-slice-bounds-same-start
+part-same-start : tie.Need-slice_bounds-same-start
 part-same-start c = search rules
 
-part-same-end : tie.Need-slice-bounds-same-end
+part-same-end : tie.Need-slice_bounds-same-end
 part-same-end c =
-    let p = c.before.before in
-    let s = p.before.before.before in
-    omega (arith, short s, p.put-file.ensures.0)
+    let p = c in
+    let s = p.before.before.before.before in
+    omega (arith, short s, p.put_file-n.ensures.0)
 
 same-requires : tie.Need-same-requires
 same-requires c κs = search rules
 
 returns : tie.Need-returns
 returns c =
-    let p = c.before.before.before.before in
-    let s = p.before.before.before in
+    let p = c in
+    let s = p in
     c.same.ensures
-    ∙ ap (λ (bs : List ℕ). same_bytes bs s.args.src.now) (laid_front (replicate (file_long + 2 * key_room) 0) p.put-file.new.0 (write_file (file_of s.args.f)) p.put-file.result p.put-file.ensures.1 p.put-file.ensures.0)
+    ∙ ap (λ (bs : List ℕ). same_bytes bs s.args.src.now) (laid_front (replicate (file_long + 2 * key_room) 0) p.put_file-n.new.out (write_file (file_of s.args.f)) p.put_file-n.result p.put_file-n.ensures.1 p.put_file-n.ensures.0)
 
 pub file_writes_spec : {M : Type 1} → statement M
-file_writes_spec =
-    tie.close
-    (tie.spec
-    slice-aggregate-put-file
-    put-file-requires
-    sub_same
-    part-same-start
-    part-same-end
-    same-requires
-    returns)
+file_writes_spec = tie.close (tie.spec slice-aggregate-put-file put-file-requires sub_same part-same-start part-same-end same-requires returns)
