@@ -52,10 +52,12 @@ fn number(s: &[u8]) -> u64 {
 }
 
 // The number that a word of the command line is.
-fn arg_number(i: usize) -> u64 {
+fn arg_number<R: Env>(rt: &R, i: usize) -> u64 {
     let mut b = io::buffer();
-    let n = os::arg(i, &mut b);
-    number(&b[..n])
+    match rt.arg(i, &mut b) {
+        Ok(n) => number(&b[..n]),
+        Err(_) => number(&b[..0]),
+    }
 }
 
 // The digit of a number at a place of ten.
@@ -657,11 +659,14 @@ fn run(word: &[u8], n: usize, files: u64, repeats: u64) -> u64 {
 }
 
 // OPERATION FILES REPEATS.
-fn main() {
+fn main(rt: HostRuntime) {
     let mut word = io::buffer();
-    let n = os::arg(1, &mut word);
-    let files = arg_number(2);
-    let repeats = arg_number(3);
+    let n = match rt.arg(1, &mut word) {
+        Ok(got) => got,
+        Err(_) => 0,
+    };
+    let files = arg_number(&rt, 2);
+    let repeats = arg_number(&rt, 3);
     io::print_decimal(1, run(&word, n, files, repeats));
     io::write_all(1, b"\n");
 }

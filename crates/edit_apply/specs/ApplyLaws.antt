@@ -1,5 +1,5 @@
 -- What the contract of `edit_apply` says: when an edit is accepted, the files that it then leaves, and what a refusal leaves. Assumes nothing.
-use Rattle.std.specs.Prelude.{ℕ, suc, ◌+◌, ◌<◌, ◌≡◌, refl, ◌↔◌, ◌⊎◌, Bool, true, false, not, cond, length, get_or}
+use Rattle.std.specs.Prelude.{ℕ, zero, suc, ◌+◌, ◌<◌, ◌≡◌, refl, ◌↔◌, ◌⊎◌, Bool, true, false, not, cond, length, get_or}
 use Rattle.std.proofs.Common.{sym, ap, ◌∙◌, subst, arith}
 use mathlib.Core.List.{List, [], ◌++◌, Memᴰ as In}
 use Rattle.lemmas.specs.Order.{clash}
@@ -88,6 +88,7 @@ pub record Left (s : Store) (e : Edit) (t : Store) : Type 0 where
 -- survivors of a level above 0 that do not collide are apart
 apart_above : (l : ℕ) (fs : List File) → no_collision l fs ≡ true → 0 < l → apart fs ≡ true
 unfolding no_collision
+apart_above zero fs c h = absurd (omega arith)
 apart_above (suc l) fs c h = c
 
 -- the survivors of a level are as `LevelLeft` says

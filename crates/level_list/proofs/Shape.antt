@@ -3,7 +3,7 @@ use mathlib.Core.List.{List}
 use mir.Val.{Val}
 use borrow.Author.Rules.{rules}
 use denote.Laws.{Is}
-use Rattle.lemmas.specs.Owned.{each_field_owned}
+use Rattle.lemmas.specs.Owned.{each_owned}
 use Rattle.lemmas.specs.Slices.{length_of_map}
 use Rattle.records.specs.Record.{Shaped}
 use Rattle.records.specs.contracts.FileRecord as record_type
@@ -18,5 +18,5 @@ shape l vs is =
     let files = is.1.1.0 in
     record {
       files = search (rules, length_of_map);
-      records = each_field_owned (record_type.the_field).row.own_val (record_type.the_field).into Shaped shaped l.files files.0 files.1.1;
+      records = each_owned (record_type.the_row).own_val Shaped shaped l.files files.0 files.1.1;
     }

@@ -6,7 +6,7 @@ use mir.Syntax.{w64}
 use mir.Val.{Val, Fits}
 use borrow.Author.Rules.{rules}
 use denote.Laws.{Is}
-use Rattle.lemmas.specs.Owned.{each_field_owned}
+use Rattle.lemmas.specs.Owned.{each_owned}
 use Rattle.lemmas.specs.Slices.{length_of_map}
 use Rattle.records.specs.RecordLaws.{AllWords}
 use Rattle.records.specs.Record.{Shaped}
@@ -23,7 +23,7 @@ shape c vs is =
     let files = is.1.1.1.1.1.0 in
     record {
       files = search (rules, length_of_map);
-      records = each_field_owned (record_type.the_field).row.own_val (record_type.the_field).into Shaped shaped c.files files.0 files.1.1;
+      records = each_owned (record_type.the_row).own_val Shaped shaped c.files files.0 files.1.1;
     }
 
 -- of one record: its number
@@ -36,4 +36,4 @@ word r vs is =
 pub words : (c : Picked) (vs : List Val) → Is picked_type.the_row c vs → AllWords c.files
 words c vs is =
     let files = is.1.1.1.1.1.0 in
-    each_field_owned (record_type.the_field).row.own_val (record_type.the_field).into (λ (r : FileRecord). r.number.0 < 2 ^ 64) word c.files files.0 files.1.1
+    each_owned (record_type.the_row).own_val (λ (r : FileRecord). r.number.0 < 2 ^ 64) word c.files files.0 files.1.1

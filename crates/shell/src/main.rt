@@ -3,6 +3,8 @@ ghost use Rattle.std.specs.Prelude.{◌≤◌, length};
 
 use shell_answer::Begun;
 use shell_machine::Machine;
+use std::io::Read;
+use std::rt::Files;
 use store::Store;
 
 // The maximum file size before a script names one.
@@ -21,15 +23,15 @@ fn print(out: &mut [u8], at: usize) {
 }
 
 // Writes the store's snapshot: keeps it under a letter, or saves it to a file.
-fn put_written(out: &mut [u8], kept: &mut [u8], s: Store, line: &[u8], which: u8) -> usize {
+fn put_written<R: Files>(rt: &R, out: &mut [u8], kept: &mut [u8], s: Store, line: &[u8], which: u8) -> usize {
     if which == b'k' {
         return shell_difference::keep(out, s, line, kept);
     }
-    shell_file::save(out, s, line)
+    shell_file::save(rt, out, s, line)
 }
 
 // Lays the answer of a command that leaves the machine as it is, and says where it ends.
-fn put_still(out: &mut [u8], kept: &mut [u8], s: Store, line: &[u8], c: Begun) -> usize {
+fn put_still<R: Files>(rt: &R, out: &mut [u8], kept: &mut [u8], s: Store, line: &[u8], c: Begun) -> usize {
     if c.group == b'p' {
         return c.at;
     }
@@ -37,23 +39,23 @@ fn put_still(out: &mut [u8], kept: &mut [u8], s: Store, line: &[u8], c: Begun) -
         return shell_difference::put_answer(out, kept, line, c.which);
     }
     if c.group == b'w' {
-        return put_written(out, kept, s, line, c.which);
+        return put_written(rt, out, kept, s, line, c.which);
     }
     shell_answer::put_asked(out, s, line, c.group, c.which)
 }
 
 // Answers a line.
-fn answer(out: &mut [u8], kept: &mut [u8], m: Machine, line: &[u8]) -> Machine {
+fn answer<R: Files>(rt: &R, out: &mut [u8], kept: &mut [u8], m: Machine, line: &[u8]) -> Machine {
     let c = shell_answer::begin(out, line);
     if c.group == 0 {
         return m;
     }
     if c.still {
-        let at = put_still(out, kept, m.store, line, c);
+        let at = put_still(rt, out, kept, m.store, line, c);
         print(out, at);
         return m;
     }
-    let after = shell_machine::turn(out, m, line, c.group, c.which);
+    let after = shell_machine::turn(rt, out, m, line, c.group, c.which);
     print(out, after.at);
     after
 }
@@ -78,9 +80,9 @@ fn front_of(out: &mut [u8], line: &[u8], count: usize) -> usize
 }
 
 // Answers the line of so many bytes.
-fn take(out: &mut [u8], kept: &mut [u8], m: Machine, line: &[u8], count: usize) -> Machine {
+fn take<R: Files>(rt: &R, out: &mut [u8], kept: &mut [u8], m: Machine, line: &[u8], count: usize) -> Machine {
     let n = front_of(out, line, count);
-    answer(out, kept, m, &line[0..n])
+    answer(rt, out, kept, m, &line[0..n])
 }
 
 // One byte more of a line. If there is no room, only the count grows, up to one past the room.
@@ -96,20 +98,23 @@ fn push(line: &mut [u8], n: usize, b: u8) -> usize {
 }
 
 // Reads standard input block after block and answers line after line.
-fn main() {
+fn main(rt: HostRuntime) {
     let mut m = shell_machine::fresh(MAXIMUM);
     let mut kept = shell_difference::nothing();
     let mut out = io::large_buffer();
     let mut line = io::large_buffer();
     let mut n: usize = 0;
     let mut block = io::large_buffer();
+    let mut input = rt.stdin();
     let mut turns: u64 = 18446744073709551615;
     while 0 < turns {
-        let got = libc::read(0, &mut block);
-        let count = io::count(got, &block);
+        let count = match input.read(&mut block) {
+            Ok(got) => got,
+            Err(_) => 0,
+        };
         if count == 0 {
             if 0 < n {
-                m = take(&mut out, &mut kept, m, &line, n);
+                m = take(&rt, &mut out, &mut kept, m, &line, n);
             }
             return;
         }
@@ -117,7 +122,7 @@ fn main() {
         while i < count {
             let b = block[i];
             if b == b'\n' {
-                m = take(&mut out, &mut kept, m, &line, n);
+                m = take(&rt, &mut out, &mut kept, m, &line, n);
                 n = 0;
             } else {
                 n = push(&mut line, n, b);

@@ -5,6 +5,12 @@ ghost use Rattle.shell_file.specs.Opening.{Left};
 
 use snapshot_parts::Snapshot;
 use snapshot_write::Written;
+use std::fs;
+use std::fs::{File, OpenFile, OpenOptions};
+use std::io::{ErrorKind, Read, Write};
+use std::os::unix::fs::OpenOptionsExt;
+use std::rt::Files;
+use std::str;
 use store::Store;
 
 // A store, and where the answer of the command ends that left it.
@@ -30,6 +36,9 @@ impl Room {
     const FILE: usize = Snapshot::LONGEST + 1;
 }
 
+// How many names of new files are tried.
+const TRIES: u32 = 1000000;
+
 // Room for a snapshot that is written.
 fn snapshot_room() -> [u8; Snapshot::LONGEST] {
     [0u8; Snapshot::LONGEST]
@@ -52,104 +61,167 @@ pub fn put_bad(out: &mut [u8], before: &[u8], name: &[u8], after: &[u8]) -> usiz
 
 // ---- writing a file
 
-// Lays the name of a file that is being written: the name, then seven bytes, of which the system replaces six. Returns its length.
-fn lay_name(room: &mut [u8], name: &[u8]) -> usize
+// Lays the name of a file that is being written: the name, a dot, and six digits. Returns its length.
+fn lay_name(room: &mut [u8], name: &[u8], tried: u32) -> usize
     ensures { result ≤ length room.new }
 {
-    let at = script_lines::put(room, 0, name);
-    let end = script_lines::put(room, at, b".XXXXXX");
-    script_lines::within(room, end)
+    let mut at = script_lines::put(room, 0, name);
+    at = script_lines::put_byte(room, at, b'.');
+    let mut place: u32 = TRIES / 10;
+    while 0 < place {
+        at = script_lines::put_byte(room, at, b'0' + (tried / place % 10) as u8);
+        place /= 10;
+    }
+    script_lines::within(room, at)
 }
 
 // Writes bytes to an open file, waits until they are on its device, and closes it. Whether all of that was done.
-fn fill(fd: i32, bytes: &[u8]) -> bool {
-    let written = io::write_all(fd, bytes);
-    let synced = libc::fsync(fd);
-    let closed = libc::close(fd);
-    if synced != 0 {
-        return false;
-    }
-    if closed != 0 {
-        return false;
-    }
-    written
+fn fill<F: Write + OpenFile + Drop>(file: F, bytes: &[u8]) -> bool {
+    let mut file = file;
+    let written = file.write_all(bytes).is_ok();
+    let synced = file.sync_all().is_ok();
+    written & synced
 }
 
 // Gives a file that was written its name. Removes it if it was not written, or if that fails. Whether the file has the name.
-fn name_file(written: bool, at: &[u8], name: &[u8]) -> bool {
+fn name_file<R: Files>(rt: &R, written: bool, at: &str, name: &str) -> bool {
     if written {
-        let renamed = os::rename(at, name);
-        if renamed == 0 {
+        if fs::rename(rt, at, name).is_ok() {
             return true;
         }
     }
-    os::unlink(at);
+    let _ = fs::remove_file(rt, at);
     false
 }
 
-// Writes bytes to a new file, whose name is made of the lent one, and gives it the other name. Whether that was done.
-fn write_beside(at: &mut [u8], name: &[u8], bytes: &[u8]) -> bool {
-    let fd = os::create_temp(at);
-    if fd < 0 {
-        return false;
-    }
-    let written = fill(fd, bytes);
-    name_file(written, at, name)
+// What came of a try to make a new file: it was written and has its name or not, or its first name is taken.
+#[derive(Clone, Copy)]
+enum Tried {
+    Named(bool),
+    Taken,
 }
 
-// Writes bytes to a file, whole or not at all: to a new one beside it, which then takes the name. Whether that was done.
-fn write_file(name: &[u8], bytes: &[u8]) -> bool {
+// Writes bytes to a new file of one name, and gives it the other. Its owner alone may read it.
+fn write_beside<R: Files>(rt: &R, at: &str, name: &str, bytes: &[u8]) -> Tried {
+    let mut how = OpenOptions::new();
+    how.write(true).create_new(true).mode(0o600);
+    match how.open(rt, at) {
+        Ok(file) => Tried::Named(name_file(rt, fill(file, bytes), at, name)),
+        Err(e) => {
+            if e.kind() == ErrorKind::AlreadyExists {
+                return Tried::Taken;
+            }
+            Tried::Named(false)
+        }
+    }
+}
+
+// Writes bytes to a new file whose name has this try's number.
+fn try_beside<R: Files>(rt: &R, name: &str, tried: u32, bytes: &[u8]) -> Tried {
     let mut room = io::buffer();
-    let n = lay_name(&mut room, name);
-    write_beside(&mut room[0..n], name, bytes)
+    let n = lay_name(&mut room, name.as_bytes(), tried);
+    match str::from_utf8(&room[0..n]) {
+        Ok(at) => write_beside(rt, at, name, bytes),
+        Err(_) => Tried::Named(false),
+    }
+}
+
+// Writes bytes to a file, whole or not at all: to a new one beside it, which then takes the name. Whether that was done. A name is text.
+fn write_file<R: Files>(rt: &R, name: &[u8], bytes: &[u8]) -> bool {
+    match str::from_utf8(name) {
+        Ok(text) => {
+            for tried in 0..TRIES {
+                match try_beside(rt, text, tried, bytes) {
+                    Tried::Named(done) => return done,
+                    Tried::Taken => {}
+                }
+            }
+            false
+        }
+        Err(_) => false,
+    }
 }
 
 // Writes the first n bytes to a file: `ok`, or that it cannot be written.
-fn put_written(out: &mut [u8], name: &[u8], room: &[u8], n: usize) -> usize {
+fn put_written<R: Files>(rt: &R, out: &mut [u8], name: &[u8], room: &[u8], n: usize) -> usize {
     if room.len() < n {
         return 0;
     }
-    if write_file(name, &room[0..n]) {
+    if write_file(rt, name, &room[0..n]) {
         return script_lines::put(out, 0, b"ok");
     }
     put_bad(out, b"cannot write ", name, b"")
 }
 
 // Saves a store's snapshot to a file.
-fn put_saved(out: &mut [u8], s: Store, name: &[u8]) -> usize {
+fn put_saved<R: Files>(rt: &R, out: &mut [u8], s: Store, name: &[u8]) -> usize {
     let mut room = snapshot_room();
     let w = snapshot_write::write(s, &mut room);
     match w {
         Written::Refused(n) => script_lines::put_refused(out, 0, n),
-        Written::Bytes(n) => put_written(out, name, &room, n),
+        Written::Bytes(n) => put_written(rt, out, name, &room, n),
     }
 }
 
 // ---- reading a file
 
 // Whether an open file has no byte left, and can be read.
-fn has_ended(fd: i32) -> bool {
+fn has_ended<F: Read>(file: &mut F) -> bool {
     let mut one = [0u8; 1];
-    libc::read(fd, &mut one) == 0
+    match file.read(&mut one) {
+        Ok(n) => n == 0,
+        Err(_) => false,
+    }
 }
 
-// Reads a file as far as there is room.
-fn read_file(name: &[u8], room: &mut [u8]) -> Got
+// Reads until the room is full, the file ends or a read fails. Returns how many bytes stand in the room.
+fn read_full<F: Read>(file: &mut F, room: &mut [u8]) -> usize
+    ensures { result ≤ length room.new }
+{
+    let mut done: usize = 0;
+    while done < room.len() {
+        match file.read(&mut room[done..]) {
+            Ok(n) => {
+                if n == 0 {
+                    return done;
+                }
+                done += n;
+            }
+            Err(_) => return done,
+        }
+    }
+    done
+}
+
+// Reads an open file as far as there is room.
+fn read_open<F: Read + Drop>(file: F, room: &mut [u8]) -> Got
     ensures { result.count ≤ length room.new }
 {
-    let fd = os::open_read(name);
-    if fd < 0 {
-        return Got {
-            fine: false,
-            count: 0,
-        };
-    }
-    let n = io::read_full(fd, room);
-    let fine = (n == room.len()) | has_ended(fd);
-    libc::close(fd);
+    let mut file = file;
+    let n = read_full(&mut file, room);
+    let fine = (n == room.len()) | has_ended(&mut file);
     Got {
         fine: fine,
         count: n,
+    }
+}
+
+// Reads a file as far as there is room. A name is text.
+fn read_file<R: Files>(rt: &R, name: &[u8], room: &mut [u8]) -> Got
+    ensures { result.count ≤ length room.new }
+{
+    match str::from_utf8(name) {
+        Ok(text) => match File::open(rt, text) {
+            Ok(file) => read_open(file, room),
+            Err(_) => Got {
+                fine: false,
+                count: 0,
+            },
+        },
+        Err(_) => Got {
+            fine: false,
+            count: 0,
+        },
     }
 }
 
@@ -199,20 +271,20 @@ pub fn name_of(line: &[u8]) -> &[u8] {
 }
 
 // Saves the store's snapshot to the file of a line.
-pub fn save(out: &mut [u8], s: Store, line: &[u8]) -> usize
+pub fn save<R: Files>(rt: &R, out: &mut [u8], s: Store, line: &[u8]) -> usize
     ensures { result ≤ length out.new }
 {
-    let at = put_saved(out, s, name_of(line));
+    let at = put_saved(rt, out, s, name_of(line));
     script_lines::within(out, at)
 }
 
 // The store that the file of a line holds.
-pub fn open(out: &mut [u8], s: Store, line: &[u8]) -> Opened
+pub fn open<R: Files>(rt: &R, out: &mut [u8], s: Store, line: &[u8]) -> Opened
     ensures { (result.at ≤ length out.new) × Left s result.store }
 {
     let mut room = file_room();
     let name = name_of(line);
-    let got = read_file(name, &mut room);
+    let got = read_file(rt, name, &mut room);
     let n = got.count;
     if !got.fine {
         return stay(out, s, name, false);

@@ -10,6 +10,7 @@ use answers::Outcome;
 use pick_answer::{Cause, Pick, Picked};
 use script_table::Fault;
 use shell_follow::Picks;
+use std::rt::Files;
 use store::Store;
 
 // The store, the last pick with its memories, and where the answer of the last command ends.
@@ -69,10 +70,10 @@ fn change(out: &mut [u8], m: Machine, line: &[u8], which: u8) -> Machine
 }
 
 // Reads the store from a file.
-fn open(out: &mut [u8], m: Machine, line: &[u8]) -> Machine
+fn open<R: Files>(rt: &R, out: &mut [u8], m: Machine, line: &[u8]) -> Machine
     ensures { (result.at ≤ length out.new) × Left m.store result.store × (result.picks ≡ m.picks) }
 {
-    let o = shell_file::open(out, m.store, line);
+    let o = shell_file::open(rt, out, m.store, line);
     let s = o.store;
     let p = m.picks;
     Machine {
@@ -196,7 +197,7 @@ fn settle(out: &mut [u8], m: Machine, line: &[u8], which: u8) -> Machine
 }
 
 // Answers a command that changes the machine.
-pub fn turn(out: &mut [u8], m: Machine, line: &[u8], group: u8, which: u8) -> Machine
+pub fn turn<R: Files>(rt: &R, out: &mut [u8], m: Machine, line: &[u8], group: u8, which: u8) -> Machine
     ensures { result.at ≤ length out.new }
 {
     if group == b'm' {
@@ -209,7 +210,7 @@ pub fn turn(out: &mut [u8], m: Machine, line: &[u8], group: u8, which: u8) -> Ma
         return pick_next(out, m, line, which);
     }
     if group == b'o' {
-        return open(out, m, line);
+        return open(rt, out, m, line);
     }
     follow(out, m, line, which)
 }

@@ -7,7 +7,7 @@ use Rattle.ask_find.specs.Finding.{narrow_of}
 use Rattle.ask_find.proofs.narrow.Statement.{statement}
 use Rattle.ask_find.proofs.narrow.Tie as tie
 
-is-before-requires : tie.Need-is-before-requires
+is-before-requires : tie.Need-is_before-ends_before-requires
 is-before-requires c κs = search rules
 
 half-requires : tie.Need-half-requires
@@ -15,7 +15,7 @@ half-requires c κs = search rules
 
 returns : tie.Need-returns
 unfolding narrow_of file_of
-returns c = c.half.ensures ∙ ap (half_of c.before.before.args.s) c.before.is-before.ensures
+returns c = c.half.ensures ∙ ap (half_of c.args.s) c.is_before-ends_before.ensures
 
 pub narrow_spec : {M : Type 1} → statement M
 narrow_spec = tie.close (tie.spec is-before-requires half-requires returns)

@@ -13,64 +13,51 @@ use Rattle.ask_find.specs.SearchLaws.{scan_stops, scan_goes_on, scan_ended}
 use Rattle.ask_find.proofs.scan.Statement.{statement}
 use Rattle.ask_find.proofs.scan.Tie as tie
 
-abbrev invariant-loop : tie.invariant-loop
+abbrev invariant-loop : tie.invariant-loop-i
 invariant-loop n k files i₀ i = (i ≤ n) × (i + passed (key_of k) (run i n files) ≡ passed (key_of k) (run 0 n files))
 
-abbrev decreases-loop : tie.decreases-loop
+abbrev decreases-loop : tie.decreases-loop-i
 decreases-loop n k files i₀ i = n - i
 
-loop-holds : tie.Need-loop-init invariant-loop decreases-loop
+loop-holds : tie.Need-loop-i-init invariant-loop decreases-loop
 loop-holds c = (omega arith, omega arith)
 
-mul-f : tie.Need-overflow-mul-f invariant-loop decreases-loop
+mul-f : tie.Need-offset_bounds-files-i invariant-loop decreases-loop
 mul-f c = omega arith
 
-array-copy-out-f : tie.Need-array-copy-out-f invariant-loop decreases-loop
+array-copy-out-f : tie.Need-bounds-files-i invariant-loop decreases-loop
 array-copy-out-f c = omega arith
 
-is-before-requires : tie.Need-is-before-requires invariant-loop decreases-loop
+is-before-requires : tie.Need-is_before-requires invariant-loop decreases-loop
 is-before-requires c κs = search rules
 
-returns : tie.Need-returns invariant-loop decreases-loop
+returns : tie.Need-returns-then-not-is_before invariant-loop decreases-loop
 returns c =
-    let l = c.before.before.before.before in
-    let a = l.before.args in
-    let q : length a.t1 ≡ max_files = search rules in
-    let t = sym c.before.is-before.ensures ∙ not-true c.before.is-before.result c.if1.true in
-    omega (arith, l.loop.invariant.1, scan_stops (key_of a.k) l.loop.i a.n a.t1 (omega arith) (omega arith) t)
+    let l = c in
+    let a = l.args in
+    let q : length a.files ≡ max_files = search rules in
+    let t = sym c.is_before.ensures ∙ c.if-not-is_before.true in
+    omega (arith, l.loop-i.invariant.1, scan_stops (key_of a.k) l.loop-i.i a.n a.files (omega arith) (omega arith) t)
 
-add-i : tie.Need-overflow-add-i invariant-loop decreases-loop
+add-i : tie.Need-overflow_add-i invariant-loop decreases-loop
 add-i c = omega arith
 
-loop-less : tie.Need-loop-smaller invariant-loop decreases-loop
+loop-less : tie.Need-loop-i-smaller invariant-loop decreases-loop
 loop-less c = omega arith
 
-loop-again : tie.Need-loop-preserved invariant-loop decreases-loop
+loop-again : tie.Need-loop-i-preserved invariant-loop decreases-loop
 loop-again c =
-    let l = c.before.before.before.before in
-    let a = l.before.args in
-    let q : length a.t1 ≡ max_files = search rules in
-    let t = sym c.before.is-before.ensures ∙ not-false c.before.is-before.result c.if1.false in
-    (omega arith, omega (arith, l.loop.invariant.1, scan_goes_on (key_of a.k) l.loop.i a.n a.t1 (omega arith) (omega arith) t))
+    let l = c in
+    let a = l.args in
+    let q : length a.files ≡ max_files = search rules in
+    let t = sym c.is_before.ensures ∙ c.if-not-is_before.false in
+    (omega arith, omega (arith, l.loop-i.invariant.1, scan_goes_on (key_of a.k) l.loop-i.i a.n a.files (omega arith) (omega arith) t))
 
-returns_2 : tie.Need-returns-2 invariant-loop decreases-loop
+returns_2 : tie.Need-returns invariant-loop decreases-loop
 returns_2 c =
-    let l = c.before in
-    let a = l.before.args in
-    omega (arith, l.loop.invariant.1, scan_ended (key_of a.k) l.loop.i a.n a.t1 (omega arith))
+    let l = c in
+    let a = l.args in
+    omega (arith, l.loop-i.invariant.1, scan_ended (key_of a.k) l.loop-i.i a.n a.files (omega arith))
 
 pub scan_spec : {M : Type 1} → statement M
-scan_spec =
-    tie.close
-    (tie.spec
-    invariant-loop
-    decreases-loop
-    loop-holds
-    mul-f
-    array-copy-out-f
-    is-before-requires
-    returns
-    add-i
-    loop-less
-    loop-again
-    returns_2)
+scan_spec = tie.close (tie.spec invariant-loop decreases-loop loop-holds mul-f array-copy-out-f is-before-requires returns add-i loop-less loop-again returns_2)

@@ -9,24 +9,24 @@ use Rattle.ask_lookup.specs.Lookup.{candidate_of}
 use Rattle.ask_lookup.proofs.chosen.Statement.{statement}
 use Rattle.ask_lookup.proofs.chosen.Tie as tie
 
-begins-after-requires : tie.Need-begins-after-requires
+begins-after-requires : tie.Need-begins_after-requires
 begins-after-requires c κs = search rules
 
-returns : tie.Need-returns
+returns : tie.Need-returns-then-begins_after
 unfolding candidate_of
 returns c =
-    let b = c.before in
-    let a = b.before.args in
-    let e : user_before (user (key_of a.k)) (user (file_of a.f).smallest) ≡ true = sym b.begins-after.ensures ∙ c.if1.true in
+    let b = c in
+    let a = b.args in
+    let e : user_before (user (key_of a.k)) (user (file_of a.f).smallest) ≡ true = sym b.begins_after.ensures ∙ c.if-begins_after.true in
     rw e
 
-returns_2 : tie.Need-returns-2
+returns_2 : tie.Need-returns
 unfolding candidate_of file_of
 returns_2 c =
-    let d = c.before in
-    let b = d.before in
-    let a = b.before.args in
-    let e : user_before (user (key_of a.k)) (user (file_of a.f).smallest) ≡ false = sym b.begins-after.ensures ∙ d.if1.false in
+    let d = c in
+    let b = d in
+    let a = b.args in
+    let e : user_before (user (key_of a.k)) (user (file_of a.f).smallest) ≡ false = sym b.begins_after.ensures ∙ d.if-begins_after.false in
     rw e
 
 pub chosen_spec : {M : Type 1} → statement M

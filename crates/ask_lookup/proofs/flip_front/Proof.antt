@@ -6,63 +6,48 @@ use Rattle.ask_lookup.specs.FallingLaws.{Turning, turn_starts, turn_keeps, turn_
 use Rattle.ask_lookup.proofs.flip_front.Statement.{statement}
 use Rattle.ask_lookup.proofs.flip_front.Tie as tie
 
-abbrev invariant-loop : tie.invariant-loop
+abbrev invariant-loop : tie.invariant-loop-j
 invariant-loop out₀ n j₀ out j = Turning out₀ n out j
 
-abbrev decreases-loop : tie.decreases-loop
+abbrev decreases-loop : tie.decreases-loop-j
 decreases-loop out₀ n j₀ out j = n - j
 
-loop-holds : tie.Need-loop-init invariant-loop decreases-loop
+loop-holds : tie.Need-loop-j-init invariant-loop decreases-loop
 loop-holds c = turn_starts _ _ c.requires
 
-mul-out : tie.Need-overflow-mul-out invariant-loop decreases-loop
+mul-out : tie.Need-offset_bounds-out-j invariant-loop decreases-loop
 mul-out c = search rules
 
-slice-read-out : tie.Need-slice-read-out invariant-loop decreases-loop
+slice-read-out : tie.Need-bounds-out-j invariant-loop decreases-loop
 slice-read-out c = search rules
 
-sub_out : tie.Need-overflow-sub-out invariant-loop decreases-loop
-sub_out c = omega (arith, c.slice-known.given c.before.before.loop.j)
+sub_out : tie.Need-overflow_sub-out invariant-loop decreases-loop
+sub_out c = omega (arith, c.slice_known-1.given c.loop-j.j)
 
-mul-out-2 : tie.Need-overflow-mul-out-2 invariant-loop decreases-loop
+mul-out-2 : tie.Need-offset_bounds-out-j-in-loop-j invariant-loop decreases-loop
 mul-out-2 c = search rules
 
-slice-write-out : tie.Need-slice-write-out invariant-loop decreases-loop
+slice-write-out : tie.Need-bounds-out-j-in-loop-j invariant-loop decreases-loop
 slice-write-out c = search rules
 
-add-j : tie.Need-overflow-add-j invariant-loop decreases-loop
+add-j : tie.Need-overflow_add-j invariant-loop decreases-loop
 add-j c = search rules
 
-loop-less : tie.Need-loop-smaller invariant-loop decreases-loop
+loop-less : tie.Need-loop-j-smaller invariant-loop decreases-loop
 loop-less c = search rules
 
-loop-again : tie.Need-loop-preserved invariant-loop decreases-loop
+loop-again : tie.Need-loop-j-preserved invariant-loop decreases-loop
 loop-again c =
-    let l = c.before.before in
-    turn_keeps l.before.args.out.now l.before.args.n l.before.requires l.loop.out l.loop.j l.loop.invariant c.before.loop-test.true
+    let l = c in
+    turn_keeps l.args.out.now l.args.n l.requires l.loop-j.out l.loop-j.j l.loop-j.invariant c.loop-j-test.true
 
-same_length : tie.Need-same-length invariant-loop decreases-loop
-same_length c = c.before.loop.invariant.room
+same_length : tie.Need-shape_of-out invariant-loop decreases-loop
+same_length c = c.loop-j.invariant.room
 
 returns : tie.Need-returns invariant-loop decreases-loop
 returns c =
-    let l = c.before in
-    turn_ends l.before.args.out.now l.before.args.n l.before.requires l.loop.out l.loop.j l.loop.invariant c.loop-test.false
+    let l = c in
+    turn_ends l.args.out.now l.args.n l.requires l.loop-j.out l.loop-j.j l.loop-j.invariant c.loop-j-test.false
 
 pub flip_front_spec : {M : Type 1} → statement M
-flip_front_spec =
-    tie.close
-    (tie.spec
-    invariant-loop
-    decreases-loop
-    loop-holds
-    mul-out
-    slice-read-out
-    sub_out
-    mul-out-2
-    slice-write-out
-    add-j
-    loop-less
-    loop-again
-    same_length
-    returns)
+flip_front_spec = tie.close (tie.spec invariant-loop decreases-loop loop-holds mul-out slice-read-out sub_out mul-out-2 slice-write-out add-j loop-less loop-again same_length returns)

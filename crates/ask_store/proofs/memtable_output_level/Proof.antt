@@ -48,111 +48,111 @@ ends_third s = ends_next s.args.s 2 (second s) (ends_second s)
 
 -- a level is the run between two of these
 at : (s : tie.Start) (l a b : ℕ) → l + 1 ≤ level_count → sum (take l s.args.s.counts) ≡ a → a + get_or s.args.s.counts l 0 ≡ b → level (state s) l ≡ files s a b
-at s l a b h = level_at s.args.s (shape s.args.s _ s.well-formed.0).counts l a b (omega arith)
+at s l a b h = level_at s.args.s (shape s.args.s _ s.well_formed.0).counts l a b (omega arith)
 
-array-read-first : tie.Need-array-read-first
+array-read-first : tie.Need-bounds-counts-0
 array-read-first c = search rules
 
-has-overlap-requires : tie.Need-has-overlap-requires
+has-overlap-requires : tie.Need-has_overlap-requires
 has-overlap-requires c κs = search rules
 
 -- whether level 0 overlaps
-seen_0 : (c : tie.After-has-overlap) → let s = c.before.before.before in meets (state s) (range s) 0 ≡ c.has-overlap.result
+seen_0 : (c : tie.After-has_overlap) → let s = c.before.before.before in meets (state s) (range s) 0 ≡ c.has_overlap.result
 seen_0 c =
     let s = c.before.before.before in
-    ap (any (overlaps (range s))) (at s 0 0 (first s) (omega arith) (starts_first s.args.s) (omega arith)) ∙ sym c.has-overlap.ensures
+    ap (any (overlaps (range s))) (at s 0 0 (first s) (omega arith) (starts_first s.args.s) (omega arith)) ∙ sym c.has_overlap.ensures
 
-returns : tie.Need-returns
+returns : tie.Need-returns-then-has_overlap
 returns c =
     let o = c.before in
     let s = o.before.before.before in
-    sym (table_stays (state s) (range s) (seen_0 o ∙ c.if1.true))
+    sym (table_stays (state s) (range s) (seen_0 o ∙ c.if-has_overlap.true))
 
-array-read-second : tie.Need-array-read-second
+array-read-second : tie.Need-bounds-counts-1
 array-read-second c = search rules
 
-add-second : tie.Need-overflow-add-second
+add-second : tie.Need-overflow_add-second
 add-second c = let s = c.before.before.before.before in omega (arith, ends_within s.args.s s.requires 1 (first s) (ends_first s.args.s))
 
-has-overlap-requires-2 : tie.Need-has-overlap-requires-2
+has-overlap-requires-2 : tie.Need-has_overlap-requires-2
 has-overlap-requires-2 c κs = search rules
 
 -- whether level 1 does
-seen_1 : (c : tie.After-has-overlap2) → let s = c.before.before.before.before.before in meets (state s) (range s) 1 ≡ c.has-overlap2.result
+seen_1 : (c : tie.After-has_overlap-2) → let s = c.before.before.before.before.before in meets (state s) (range s) 1 ≡ c.has_overlap-2.result
 seen_1 c =
     let s = c.before.before.before.before.before in
-    ap (any (overlaps (range s))) (at s 1 (first s) (second s) (omega arith) (ends_first s.args.s) (omega arith)) ∙ sym c.has-overlap2.ensures
+    ap (any (overlaps (range s))) (at s 1 (first s) (second s) (omega arith) (ends_first s.args.s) (omega arith)) ∙ sym c.has_overlap-2.ensures
 
-returns_2 : tie.Need-returns-2
+returns_2 : tie.Need-returns-then-has_overlap-2
 returns_2 c =
     let o = c.before in
-    let e = o.before in
-    let s = e.before.before.before.before in
-    sym (table_next (state s) (range s) (seen_0 e.before ∙ e.if1.false) (seen_1 o ∙ c.if2.true))
+    let e = o in
+    let s = e.before.before.before.before.before in
+    sym (table_next (state s) (range s) (seen_0 e.before.before ∙ e.if-has_overlap.false) (seen_1 o ∙ c.if-has_overlap-2.true))
 
-array-read-third : tie.Need-array-read-third
+array-read-third : tie.Need-bounds-counts-2
 array-read-third c = search rules
 
-add-third : tie.Need-overflow-add-third
+add-third : tie.Need-overflow_add-third
 add-third c = let s = c.before.before.before.before.before.before in omega (arith, ends_within s.args.s s.requires 2 (second s) (ends_second s))
 
-overlapping-bytes-requires : tie.Need-overlapping-bytes-requires
+overlapping-bytes-requires : tie.Need-overlapping_bytes-requires
 overlapping-bytes-requires c κs = search rules
 
 -- the overlapping bytes of level 2
-bytes_2 : (c : tie.After-overlapping-bytes) → let s = c.before.before.before.before.before.before.before in c.overlapping-bytes.result ≡ min (total (keep (overlaps (range s)) (level (state s) 2))) max_word
+bytes_2 : (c : tie.After-overlapping_bytes) → let s = c.before.before.before.before.before.before.before in c.overlapping_bytes.result ≡ min (total (keep (overlaps (range s)) (level (state s) 2))) max_word
 bytes_2 c =
     let s = c.before.before.before.before.before.before.before in
-    c.overlapping-bytes.ensures ∙ ap (λ (fs : List File). min (total (keep (overlaps (range s)) fs)) max_word) (sym (at s 2 (second s) (third s) (omega arith) (ends_second s) (omega arith)))
+    c.overlapping_bytes.ensures ∙ ap (λ (fs : List File). min (total (keep (overlaps (range s)) fs)) max_word) (sym (at s 2 (second s) (third s) (omega arith) (ends_second s) (omega arith)))
 
-returns_3 : tie.Need-returns-3
+returns_3 : tie.Need-returns-then-overlapping_bytes-gt-MOST_OVERLAP
 returns_3 c =
     let b = c.before in
-    let d = b.before in
-    let o = d.before in
-    let e = o.before in
-    let s = e.before.before.before.before in
-    sym (table_heavy (state s) (range s) (seen_0 e.before ∙ e.if1.false) (seen_1 o ∙ d.if2.false) (heavy_yes _ b.overlapping-bytes.result (bytes_2 b) c.if3.true))
+    let d = b in
+    let o = d.before.before in
+    let e = o in
+    let s = e.before.before.before.before.before in
+    sym (table_heavy (state s) (range s) (seen_0 e.before.before ∙ e.if-has_overlap.false) (seen_1 o ∙ d.if-has_overlap-2.false) (heavy_yes _ b.overlapping_bytes.result (bytes_2 b) c.if-overlapping_bytes-gt-MOST_OVERLAP.true))
 
-has-overlap-requires-3 : tie.Need-has-overlap-requires-3
+has-overlap-requires-3 : tie.Need-has_overlap-requires-3
 has-overlap-requires-3 c κs = search rules
 
 -- whether level 2 overlaps
-seen_2 : (c : tie.After-has-overlap3) → let s = c.before.before.before.before.before.before.before.before.before in meets (state s) (range s) 2 ≡ c.has-overlap3.result
+seen_2 : (c : tie.After-has_overlap-3) → let s = c.before.before.before.before.before.before.before.before.before in meets (state s) (range s) 2 ≡ c.has_overlap-3.result
 seen_2 c =
     let s = c.before.before.before.before.before.before.before.before.before in
-    ap (any (overlaps (range s))) (at s 2 (second s) (third s) (omega arith) (ends_second s) (omega arith)) ∙ sym c.has-overlap3.ensures
+    ap (any (overlaps (range s))) (at s 2 (second s) (third s) (omega arith) (ends_second s) (omega arith)) ∙ sym c.has_overlap-3.ensures
 
-returns-4 : tie.Need-returns-4
+returns-4 : tie.Need-returns-then-has_overlap-3
 returns-4 c =
     let p = c.before in
-    let f = p.before in
-    let b = f.before in
-    let d = b.before in
-    let o = d.before in
-    let e = o.before in
-    let s = e.before.before.before.before in
-    sym (table_second (state s) (range s) (seen_0 e.before ∙ e.if1.false) (seen_1 o ∙ d.if2.false) (heavy_no _ b.overlapping-bytes.result (bytes_2 b) f.if3.false) (seen_2 p ∙ c.if4.true))
+    let f = p in
+    let b = f.before.before in
+    let d = b in
+    let o = d.before.before in
+    let e = o in
+    let s = e.before.before.before.before.before in
+    sym (table_second (state s) (range s) (seen_0 e.before.before ∙ e.if-has_overlap.false) (seen_1 o ∙ d.if-has_overlap-2.false) (heavy_no _ b.overlapping_bytes.result (bytes_2 b) f.if-overlapping_bytes-gt-MOST_OVERLAP.false) (seen_2 p ∙ c.if-has_overlap-3.true))
 
-array-read-fourth : tie.Need-array-read-fourth
+array-read-fourth : tie.Need-bounds-counts-3
 array-read-fourth c = search rules
 
-add-fourth : tie.Need-overflow-add-fourth
+add-fourth : tie.Need-overflow_add-fourth
 add-fourth c =
     let s = c.before.before.before.before.before.before.before.before.before.before in
     omega (arith, ends_within s.args.s s.requires 3 (third s) (ends_third s))
 
-overlapping-bytes-requires-2 : tie.Need-overlapping-bytes-requires-2
+overlapping-bytes-requires-2 : tie.Need-overlapping_bytes-requires-2
 overlapping-bytes-requires-2 c κs = search rules
 
 -- the overlapping bytes of level 3
-bytes_3 : (c : tie.After-overlapping-bytes2) → let s = c.before.before.before.before.before.before.before.before.before.before.before in c.overlapping-bytes2.result ≡ min (total (keep (overlaps (range s)) (level (state s) 3))) max_word
+bytes_3 : (c : tie.After-overlapping_bytes-2) → let s = c.before.before.before.before.before.before.before.before.before.before.before in c.overlapping_bytes-2.result ≡ min (total (keep (overlaps (range s)) (level (state s) 3))) max_word
 bytes_3 c =
     let s = c.before.before.before.before.before.before.before.before.before.before.before in
-    c.overlapping-bytes2.ensures ∙ ap (λ (fs : List File). min (total (keep (overlaps (range s)) fs)) max_word) (sym (at s 3 (third s) (fourth s) (omega arith) (ends_third s) (omega arith)))
+    c.overlapping_bytes-2.ensures ∙ ap (λ (fs : List File). min (total (keep (overlaps (range s)) fs)) max_word) (sym (at s 3 (third s) (fourth s) (omega arith) (ends_third s) (omega arith)))
 
 -- levels 0 to 2 let it through: the bytes of level 3 decide
-decides : (h : tie.After-overlapping-bytes2)
+decides : (h : tie.After-overlapping_bytes-2)
     → let s = h.before.before.before.before.before.before.before.before.before.before.before in
     (heavy (state s) (range s) 3 ≡ true → memtable_level full (state s) (range s) ≡ 1) × (heavy (state s) (range s) 3 ≡ false → memtable_level full (state s) (range s) ≡ 2)
 decides h =
@@ -164,37 +164,17 @@ decides h =
     let o = d.before in
     let e = o.before in
     let s = e.before.before.before.before in
-    let none_0 = seen_0 e.before ∙ e.if1.false in
-    let none_1 = seen_1 o ∙ d.if2.false in
-    let few_2 = heavy_no _ b.overlapping-bytes.result (bytes_2 b) f.if3.false in
-    let none_2 = seen_2 p ∙ g.if4.false in
+    let none_0 = seen_0 e.before ∙ e.if-has_overlap.false in
+    let none_1 = seen_1 o ∙ d.if-has_overlap-2.false in
+    let few_2 = heavy_no _ b.overlapping_bytes.result (bytes_2 b) f.if-overlapping_bytes-gt-MOST_OVERLAP.false in
+    let none_2 = seen_2 p ∙ g.if-has_overlap-3.false in
     (table_heavier (state s) (range s) none_0 none_1 few_2 none_2, table_deepest (state s) (range s) none_0 none_1 few_2 none_2)
 
-returns-5 : tie.Need-returns-5
-returns-5 c = let h = c.before in sym ((decides h).0 (heavy_yes _ h.overlapping-bytes2.result (bytes_3 h) c.if5.true))
+returns-5 : tie.Need-returns-then-overlapping_bytes-gt-MOST_OVERLAP-2
+returns-5 c = let h = c.before in sym ((decides h).0 (heavy_yes _ h.overlapping_bytes-2.result (bytes_3 h) c.if-overlapping_bytes-gt-MOST_OVERLAP-2.true))
 
-returns-6 : tie.Need-returns-6
-returns-6 c = let h = c.before in sym ((decides h).1 (heavy_no _ h.overlapping-bytes2.result (bytes_3 h) c.if5.false))
+returns-6 : tie.Need-returns
+returns-6 c = let h = c.before in sym ((decides h).1 (heavy_no _ h.overlapping_bytes-2.result (bytes_3 h) c.if-overlapping_bytes-gt-MOST_OVERLAP-2.false))
 
 pub memtable_output_level_spec : {M : Type 1} → statement M
-memtable_output_level_spec =
-    tie.close
-    (tie.spec
-    array-read-first
-    has-overlap-requires
-    returns
-    array-read-second
-    add-second
-    has-overlap-requires-2
-    returns_2
-    array-read-third
-    add-third
-    overlapping-bytes-requires
-    returns_3
-    has-overlap-requires-3
-    returns-4
-    array-read-fourth
-    add-fourth
-    overlapping-bytes-requires-2
-    returns-5
-    returns-6)
+memtable_output_level_spec = tie.close (tie.spec array-read-first has-overlap-requires returns array-read-second add-second has-overlap-requires-2 returns_2 array-read-third add-third overlapping-bytes-requires returns_3 has-overlap-requires-3 returns-4 array-read-fourth add-fourth overlapping-bytes-requires-2 returns-5 returns-6)

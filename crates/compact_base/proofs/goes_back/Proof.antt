@@ -6,17 +6,17 @@ use Rattle.compact_base.specs.BaseLaws.{before_asked, none_asked}
 use Rattle.compact_base.proofs.goes_back.Statement.{statement}
 use Rattle.compact_base.proofs.goes_back.Tie as tie
 
-user-key-is-before-requires : tie.Need-user-key-is-before-requires
+user-key-is-before-requires : tie.Need-user_key_is_before-requires
 user-key-is-before-requires c κs = search rules
 
-returns : tie.Need-returns
+returns : tie.Need-returns-then-m
 returns c =
-    let t = c.before in
-    let a = t.before.args in
-    c.user-key-is-before.ensures ∙ sym (before_asked a.m (user_of a.u) t.if1.true)
+    let t = c in
+    let a = t.args in
+    c.user_key_is_before.ensures ∙ sym (before_asked a.m (user_of a.u) t.if-m.true)
 
-returns_2 : tie.Need-returns-2
-returns_2 c = let a = c.before.args in sym (none_asked a.m (user_of a.u) c.if1.false)
+returns_2 : tie.Need-returns
+returns_2 c = let a = c.args in sym (none_asked a.m (user_of a.u) c.if-m.false)
 
 pub goes_back_spec : {M : Type 1} → statement M
 goes_back_spec = tie.close (tie.spec user-key-is-before-requires returns returns_2)

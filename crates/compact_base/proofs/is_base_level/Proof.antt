@@ -19,53 +19,44 @@ use Rattle.compact_base.proofs.is_base_level.Tie as tie
 
 -- the lengths of the store's arrays
 shaped : (s : tie.Start) → StoreShape s.args.s
-shaped s = shape s.args.s _ s.well-formed.0
+shaped s = shape s.args.s _ s.well_formed.0
 
-add-if1 : tie.Need-overflow-add-if1
+add-if1 : tie.Need-overflow_add-level
 add-if1 c = search rules
 
-returns : tie.Need-returns
+returns : tie.Need-returns-then-level-ge-COUNT
 returns c =
     let s = c.before in
     let a = s.args in
-    sym (base_last a.s s.requires.0 (shaped s).files (shaped s).counts a.level (user_of a.u) c.if1.true)
+    sym (base_last a.s s.requires.0 (shaped s).files (shaped s).counts a.level (user_of a.u) c.if-level-ge-COUNT.true)
 
-add-start-of : tie.Need-overflow-add-start-of
+add-start-of : tie.Need-overflow_add-level-2
 add-start-of c = search rules
 
-start-of-requires : tie.Need-start-of-requires
+start-of-requires : tie.Need-start_of-from-requires
 start-of-requires c κs =
-    let e = c.before in
-    let a = e.before.args in
-    (omega (arith, e.if1.false), ((levels.well_says a.s.files a.s.counts).0 (well_levels_lem a.s e.before.requires.0)).sound.room)
+    let e = c in
+    let a = e.args in
+    (omega (arith, e.if-level-ge-COUNT.false), ((levels.well_says a.s.files a.s.counts).0 (well_levels_lem a.s e.requires.0)).sound.room)
 
-counted-requires : tie.Need-counted-requires
+counted-requires : tie.Need-counted-to-requires
 counted-requires c κs = search rules
 
-has-overlap-requires : tie.Need-has-overlap-requires
+has-overlap-requires : tie.Need-has_overlap-requires
 has-overlap-requires c κs = search rules
 
-returns_2 : tie.Need-returns-2
+returns_2 : tie.Need-returns
 unfolding span_of
 returns_2 c =
-    let n = c.before.before in
-    let f = n.before in
-    let e = f.before.before in
-    let s = e.before in
+    let n = c in
+    let f = n in
+    let e = f in
+    let s = e.before.before.before.before.before.before in
     let a = s.args in
     let u = user_of a.u in
     let test : ℕ → ℕ → Bool = λ from to. any (overlaps (record { start = u; stop = u })) (run from to a.s.files) in
-    ap not (c.has-overlap.ensures ∙ ap (λ (from : ℕ). test from n.counted.result) f.start_of_lem.ensures ∙ ap (test _) n.counted.ensures)
-    ∙ sym (base_is a.s s.requires.0 (shaped s).files (shaped s).counts a.level u (omega (arith, e.if1.false)))
+    ap not (c.has_overlap.ensures ∙ ap (λ (from : ℕ). test from n.counted-to.result) f.start_of-from.ensures ∙ ap (test _) n.counted-to.ensures)
+    ∙ sym (base_is a.s s.requires.0 (shaped s).files (shaped s).counts a.level u (omega (arith, e.if-level-ge-COUNT.false)))
 
 pub is_base_level_spec : {M : Type 1} → statement M
-is_base_level_spec =
-    tie.close
-    (tie.spec
-    add-if1
-    returns
-    add-start-of
-    start-of-requires
-    counted-requires
-    has-overlap-requires
-    returns_2)
+is_base_level_spec = tie.close (tie.spec add-if1 returns add-start-of start-of-requires counted-requires has-overlap-requires returns_2)

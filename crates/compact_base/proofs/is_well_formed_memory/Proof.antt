@@ -6,31 +6,30 @@ use Rattle.compact_base.specs.BaseLaws.{memory_unsound, memory_some, memory_none
 use Rattle.compact_base.proofs.is_well_formed_memory.Statement.{statement}
 use Rattle.compact_base.proofs.is_well_formed_memory.Tie as tie
 
-is-sound-user-requires : tie.Need-is-sound-user-requires
+is-sound-user-requires : tie.Need-is_sound_user-requires
 is-sound-user-requires c κs = search rules
 
-returns : tie.Need-returns
+returns : tie.Need-returns-then-not-is_sound_user
 returns c =
-    let s = c.before in
-    sym (memory_unsound s.before.args.m (sym s.is-sound-user.ensures ∙ not-true s.is-sound-user.result c.if1.true))
+    let s = c in
+    sym (memory_unsound s.args.m (sym s.is_sound_user.ensures ∙ c.if-not-is_sound_user.true))
 
-is-good-user-requires : tie.Need-is-good-user-requires
+is-good-user-requires : tie.Need-is_good_user-requires
 is-good-user-requires c κs = search rules
 
-returns_2 : tie.Need-returns-2
+returns_2 : tie.Need-returns-then-m
 returns_2 c =
-    let e = c.before.before in
-    let s = e.before in
-    let t = sym s.is-sound-user.ensures ∙ not-false s.is-sound-user.result e.if1.false in
-    c.is-good-user.ensures ∙ sym (memory_some s.before.args.m t c.before.if2.true)
+    let e = c in
+    let s = e in
+    let t = sym s.is_sound_user.ensures ∙ e.if-not-is_sound_user.false in
+    c.is_good_user.ensures ∙ sym (memory_some s.args.m t c.if-m.true)
 
-returns_3 : tie.Need-returns-3
+returns_3 : tie.Need-returns-else-m
 returns_3 c =
-    let e = c.before.before in
-    let s = e.before in
-    let t = sym s.is-sound-user.ensures ∙ not-false s.is-sound-user.result e.if1.false in
-    sym (memory_none s.before.args.m t c.before.if2.false)
+    let e = c in
+    let s = e in
+    let t = sym s.is_sound_user.ensures ∙ e.if-not-is_sound_user.false in
+    sym (memory_none s.args.m t c.if-m.false)
 
 pub is_well_formed_memory_spec : {M : Type 1} → statement M
-is_well_formed_memory_spec =
-    tie.close (tie.spec is-sound-user-requires returns is-good-user-requires returns_2 returns_3)
+is_well_formed_memory_spec = tie.close (tie.spec is-sound-user-requires returns is-good-user-requires returns_2 returns_3)

@@ -17,7 +17,7 @@ use Rattle.compact_cutter.proofs.advance.Tie as tie
 
 -- the array's length
 long : (s : tie.Start) → length s.args.c.files ≡ max_files
-long s = (shape s.args.c _ s.well-formed.0).files
+long s = (shape s.args.c _ s.well_formed.0).files
 
 -- the memory is within the grandparents, its count at most 10 M, and M in its range
 within : (s : tie.Start) → let a = s.args in (a.m.place ≤ a.c.grand) × (a.m.count ≤ 10 * a.c.maximum) × (a.c.maximum ≤ largest_maximum)
@@ -25,24 +25,24 @@ within s =
     let w = good_within s.args.c s.args.m (long s) s.requires.0 s.requires.1 in
     (w.0, w.1, (well_maximum s.args.c s.requires.0 (long s)).1)
 
-pass-requires : tie.Need-pass-requires
+pass-requires : tie.Need-pass-p-requires
 pass-requires c κs = (c.requires.0, (within c).0)
 
-mul-cut-after : tie.Need-overflow-mul-cut-after
+mul-cut-after : tie.Need-overflow_mul-c
 mul-cut-after c = omega (arith, (within c.before.before).2)
 
-cut-after-requires : tie.Need-cut-after-requires
+cut-after-requires : tie.Need-cut_after-requires
 cut-after-requires c κs =
     let s = c.before.before in
     let a = s.args in
     let w = within s in
-    omega (arith, ap (λ (x : Passing). x.bytes) c.before.pass.ensures, passing_bound a.c s.requires.0 a.m.place (key_of a.k) (long s), w.1, w.2)
+    omega (arith, ap (λ (x : Passing). x.bytes) c.pass-p.ensures, passing_bound a.c s.requires.0 a.m.place (key_of a.k) (long s), w.1, w.2)
 
 returns : tie.Need-returns
 returns c =
-    let p = c.before.before in
-    let a = p.before.args in
-    c.cut-after.ensures ∙ ap (cut_after a.m (10 * a.c.maximum)) p.pass.ensures ∙ cut_is a.m a.c.maximum (picked_of a.c).grand (key_of a.k)
+    let p = c in
+    let a = p.args in
+    c.cut_after.ensures ∙ ap (cut_after a.m (10 * a.c.maximum)) p.pass-p.ensures ∙ cut_is a.m a.c.maximum (picked_of a.c).grand (key_of a.k)
 
 pub advance_spec : {M : Type 1} → statement M
 advance_spec = tie.close (tie.spec pass-requires mul-cut-after cut-after-requires returns)

@@ -6,16 +6,16 @@ use borrow.Author.Rules.{rules}
 use Rattle.compact_cutter.proofs.counted_with.Statement.{statement}
 use Rattle.compact_cutter.proofs.counted_with.Tie as tie
 
-add-result : tie.Need-overflow-add-result
+add-result : tie.Need-overflow_add-result
 add-result c = search rules
 
-returns : tie.Need-returns
+returns : tie.Need-returns-then-m
 unfolding counted_with
-returns c = rw c.before.if1.true
+returns c = rw c.if-m.true
 
-returns_2 : tie.Need-returns-2
+returns_2 : tie.Need-returns-else-m
 unfolding counted_with
-returns_2 c = rw c.if1.false (sym (add-zero c.before.args.m.count))
+returns_2 c = rw c.if-m.false (sym (add-zero c.args.m.count))
 
 pub counted_with_spec : {M : Type 1} → statement M
 counted_with_spec = tie.close (tie.spec add-result returns returns_2)

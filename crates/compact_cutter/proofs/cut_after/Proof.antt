@@ -6,22 +6,22 @@ use borrow.Author.Rules.{rules}
 use Rattle.compact_cutter.proofs.cut_after.Statement.{statement}
 use Rattle.compact_cutter.proofs.cut_after.Tie as tie
 
-counted-with-requires : tie.Need-counted-with-requires
+counted-with-requires : tie.Need-counted_with-bytes-requires
 counted-with-requires c κs = search rules
 
-returns : tie.Need-returns
+returns : tie.Need-returns-then-most-bytes
 unfolding cut_after outcome_of
 returns c =
-    let b = c.before in
-    let a = b.before.args in
-    rw (← b.counted-with.ensures, lt-ltb a.most b.counted-with.result c.if1.true)
+    let b = c in
+    let a = b.args in
+    rw (← b.counted_with-bytes.ensures, lt-ltb a.most b.counted_with-bytes.result c.if-most-bytes.true)
 
-returns_2 : tie.Need-returns-2
+returns_2 : tie.Need-returns
 unfolding cut_after outcome_of
 returns_2 c =
-    let b = c.before in
-    let a = b.before.args in
-    rw (← b.counted-with.ensures, le-ltb a.most b.counted-with.result c.if1.false)
+    let b = c in
+    let a = b.args in
+    rw (← b.counted_with-bytes.ensures, le-ltb a.most b.counted_with-bytes.result c.if-most-bytes.false)
 
 pub cut_after_spec : {M : Type 1} → statement M
 cut_after_spec = tie.close (tie.spec counted-with-requires returns returns_2)

@@ -5,13 +5,13 @@ use Rattle.answers.specs.Outcome.{yes_no_of}
 use Rattle.compact_cutter_lent.proofs.yes_or_no.Statement.{statement}
 use Rattle.compact_cutter_lent.proofs.yes_or_no.Tie as tie
 
-returns : tie.Need-returns
+returns : tie.Need-returns-then-b
 unfolding yes_no_of
-returns c = ap gives (sym c.if1.true)
+returns c = ap gives (sym c.if-b.true)
 
-returns_2 : tie.Need-returns-2
+returns_2 : tie.Need-returns-else-b
 unfolding yes_no_of
-returns_2 c = ap gives (sym c.if1.false)
+returns_2 c = ap gives (sym c.if-b.false)
 
 pub yes_or_no_spec : {M : Type 1} → statement M
 yes_or_no_spec = tie.close (tie.spec returns returns_2)

@@ -10,34 +10,34 @@ use Rattle.lemmas.specs.Merge.{lay_starts, lay_turn, lay_ended}
 use Rattle.compact_deletions.proofs.fill_levels.Statement.{statement}
 use Rattle.compact_deletions.proofs.fill_levels.Tie as tie
 
-abbrev invariant-loop : tie.invariant-loop
+abbrev invariant-loop : tie.invariant-loop-i
 invariant-loop out₀ at n level i₀ out i = (i ≤ n) × (length out ≡ length out₀) × (put out (at + i) (drop i (replicate n level)) ≡ put out₀ at (replicate n level))
 
-abbrev decreases-loop : tie.decreases-loop
+abbrev decreases-loop : tie.decreases-loop-i
 decreases-loop out₀ at n level i₀ out i = n - i
 
-loop-holds : tie.Need-loop-init invariant-loop decreases-loop
+loop-holds : tie.Need-loop-i-init invariant-loop decreases-loop
 loop-holds c = let a = c.args in (omega arith, refl, lay_starts a.out.now a.at (replicate a.n a.level))
 
-add-out : tie.Need-overflow-add-out invariant-loop decreases-loop
+add-out : tie.Need-overflow_add-out invariant-loop decreases-loop
 add-out c = search rules
 
-mul-out : tie.Need-overflow-mul-out invariant-loop decreases-loop
+mul-out : tie.Need-offset_bounds-out-at invariant-loop decreases-loop
 mul-out c = search rules
 
-slice-write-out : tie.Need-slice-write-out invariant-loop decreases-loop
+slice-write-out : tie.Need-bounds-out-at invariant-loop decreases-loop
 slice-write-out c = search rules
 
-add-i : tie.Need-overflow-add-i invariant-loop decreases-loop
+add-i : tie.Need-overflow_add-i invariant-loop decreases-loop
 add-i c = search rules
 
-loop-less : tie.Need-loop-smaller invariant-loop decreases-loop
+loop-less : tie.Need-loop-i-smaller invariant-loop decreases-loop
 loop-less c = search rules
 
-loop-again : tie.Need-loop-preserved invariant-loop decreases-loop
+loop-again : tie.Need-loop-i-preserved invariant-loop decreases-loop
 loop-again c =
-    let l = c.before.loop in
-    let a = c.before.before.args in
+    let l = c.loop-i in
+    let a = c.args in
     let run = replicate a.n a.level in
     let size = length-replicate a.n a.level in (
       omega arith,
@@ -46,27 +46,14 @@ loop-again c =
           ∙ lay_turn l.out a.at run l.i a.level (omega arith) (omega arith) ∙ l.invariant.2,
     )
 
-same_length : tie.Need-same-length invariant-loop decreases-loop
+same_length : tie.Need-shape_of-out invariant-loop decreases-loop
 same_length c = search rules
 
 returns : tie.Need-returns invariant-loop decreases-loop
 returns c =
-    let l = c.before.loop in
-    let a = c.before.before.args in
+    let l = c.loop-i in
+    let a = c.args in
     sym (lay_ended l.out a.at (replicate a.n a.level) l.i (omega (arith, length-replicate a.n a.level))) ∙ l.invariant.2
 
 pub fill_levels_spec : {M : Type 1} → statement M
-fill_levels_spec =
-    tie.close
-    (tie.spec
-    invariant-loop
-    decreases-loop
-    loop-holds
-    add-out
-    mul-out
-    slice-write-out
-    add-i
-    loop-less
-    loop-again
-    same_length
-    returns)
+fill_levels_spec = tie.close (tie.spec invariant-loop decreases-loop loop-holds add-out mul-out slice-write-out add-i loop-less loop-again same_length returns)

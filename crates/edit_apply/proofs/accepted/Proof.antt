@@ -5,26 +5,26 @@ use Rattle.edit_apply.specs.Apply.{accepted_by}
 use Rattle.edit_apply.proofs.accepted.Statement.{statement}
 use Rattle.edit_apply.proofs.accepted.Tie as tie
 
-add-counts-requires : tie.Need-add-counts-requires
+add-counts-requires : tie.Need-add_counts-counts-requires
 add-counts-requires c κs = search rules
 
-point-requires : tie.Need-point-requires
+point-requires : tie.Need-point-pointers-requires
 point-requires c κs = search rules
 
-with-log-requires : tie.Need-with-log-requires
+with-log-requires : tie.Need-with_log-counters-requires
 with-log-requires c κs = search rules
 
 returns : tie.Need-returns
 unfolding accepted_by
 returns c =
-    let p = c.before.before in
-    let t = p.before.before.before in
+    let p = c in
+    let t = p in
     λ i. record {
       store = record {
-        files = t.before.before.before.args.files;
-        counts = t.add_counts.ensures i;
-        pointers = p.point.ensures i;
-        counters = c.with-log.ensures i;
+        files = t.args.files;
+        counts = t.add_counts-counts.ensures i;
+        pointers = p.point-pointers.ensures i;
+        counters = c.with_log-counters.ensures i;
       };
       outcome = Done;
     }

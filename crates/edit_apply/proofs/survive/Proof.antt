@@ -10,13 +10,13 @@ use Rattle.edit_apply.proofs.survive.Tie as tie
 
 -- the store's arrays have their lengths
 shaped : (s : tie.Start) → StoreShape s.args.s
-shaped s = shape s.args.s _ s.well-formed.0
+shaped s = shape s.args.s _ s.well_formed.0
 
 -- so have the edit's
 roomy : (s : tie.Start) → HasRoom s.args.e
-roomy s = has_room s.args.e _ s.well-formed.1.0
+roomy s = has_room s.args.e _ s.well_formed.1.0
 
-new-records-requires : tie.Need-new-records-requires
+new-records-requires : tie.Need-new_records-news-requires
 new-records-requires c κs = let s = c.before in (tested.within s.args.s s.args.e (shaped s) (roomy s) s.requires.0 s.requires.1).additions
 
 merge-requires : tie.Need-merge-requires
@@ -32,10 +32,10 @@ merge-requires c κs =
 
 returns : tie.Need-returns
 returns c =
-    let n = c.before.before.before.before.before.before in
-    let s = n.before.before in
+    let n = c in
+    let s = n.before.before.before.before.before.before.before.before in
     let a = s.args in
-    c.merge.ensures ∙ tested.merged_is a.s a.e (shaped s) (roomy s) s.requires.0 s.requires.1 a.p s.requires.2 s.requires.3 n.new-records.result n.new-records.ensures
+    c.merge.ensures ∙ tested.merged_is a.s a.e (shaped s) (roomy s) s.requires.0 s.requires.1 a.p s.requires.2 s.requires.3 n.new_records-news.result n.new_records-news.ensures
 
 pub survive_spec : {M : Type 1} → statement M
 survive_spec = tie.close (tie.spec new-records-requires merge-requires returns)

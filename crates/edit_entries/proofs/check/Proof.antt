@@ -17,85 +17,73 @@ use borrow.Author.Rules.{rules}
 use Rattle.edit_entries.proofs.check.Statement.{statement}
 use Rattle.edit_entries.proofs.check.Tie as tie
 
-has-too-many-requires : tie.Need-has-too-many-requires
+has-too-many-requires : tie.Need-has_too_many-requires
 has-too-many-requires c κs = search rules
 
-returns : tie.Need-returns
+returns : tie.Need-returns-then-has_too_many
 returns c =
-    let s = c.before.before in
-    sym (checks_many (counters_of s.args.c) (edit_of s.args.e) (sym c.before.has-too-many.ensures ∙ c.if1.true))
+    let s = c in
+    sym (checks_many (counters_of s.args.c) (edit_of s.args.e) (sym c.has_too_many.ensures ∙ c.if-has_too_many.true))
 
 -- not too many entries
-fits : (c : tie.Else1) → too_many full (edit_of c.before.before.args.e) ≡ false
-fits c = sym c.before.has-too-many.ensures ∙ c.if1.false
+fits : (c : tie.Else-has_too_many) → too_many full (edit_of c.args.e) ≡ false
+fits c = sym c.has_too_many.ensures ∙ c.if-has_too_many.false
 
 -- so the counts are within the room
-within : (c : tie.Else1) → Few c.before.before.args.e
-within c = let s = c.before.before in few s.args.e (has_room s.args.e _ s.well-formed.1.0) (fits c)
+within : (c : tie.Else-has_too_many) → Few c.args.e
+within c = let s = c in few s.args.e (has_room s.args.e _ s.well_formed.1.0) (fits c)
 
-has-bad-log-requires : tie.Need-has-bad-log-requires
+has-bad-log-requires : tie.Need-has_bad_log-requires
 has-bad-log-requires c κs = search rules
 
-returns_2 : tie.Need-returns-2
+returns_2 : tie.Need-returns-then-has_bad_log
 unfolding edit_of
 returns_2 c =
     let e = c.before.before in
-    let s = e.before.before in
-    sym (checks_log (counters_of s.args.c) (edit_of s.args.e) (fits e) (sym c.before.has-bad-log.ensures ∙ c.if2.true))
+    let s = e in
+    sym (checks_log (counters_of s.args.c) (edit_of s.args.e) (fits e) (sym c.has_bad_log.ensures ∙ c.if-has_bad_log.true))
 
 -- what is left: the tests of the entries
-rest : (c : tie.Else2) → passed (checks (counters_of c.before.before.before.before.args.c) (edit_of c.before.before.before.before.args.e))
-    ≡ passed (pointer_refusals full (edit_of c.before.before.before.before.args.e).pointers
-    ++ (deletion_refusals full (edit_of c.before.before.before.before.args.e).deletions ++ addition_refusals full (edit_of c.before.before.before.before.args.e).additions))
+rest : (c : tie.Else-has_bad_log) → passed (checks (counters_of c.args.c) (edit_of c.args.e))
+    ≡ passed (pointer_refusals full (edit_of c.args.e).pointers
+    ++ (deletion_refusals full (edit_of c.args.e).deletions ++ addition_refusals full (edit_of c.args.e).additions))
 unfolding edit_of
 rest c =
     let e = c.before.before in
-    let s = e.before.before in
-    checks_entries (counters_of s.args.c) (edit_of s.args.e) (fits e) (sym c.before.has-bad-log.ensures ∙ c.if2.false)
+    let s = e in
+    checks_entries (counters_of s.args.c) (edit_of s.args.e) (fits e) (sym c.has_bad_log.ensures ∙ c.if-has_bad_log.false)
 
-check-pointings-requires : tie.Need-check-pointings-requires
+check-pointings-requires : tie.Need-check_pointings-o-requires
 check-pointings-requires c κs = (within c.before.before.before).pointings
 
 -- the outcome of the tests of the pointers
-pointed : (c : tie.After-check-pointings) → c.check-pointings.result ≡ passed (pointer_refusals full (edit_of c.before.before.before.before.before.before.args.e).pointers)
+pointed : (c : tie.After-check_pointings-o) → c.check_pointings-o.result ≡ passed (pointer_refusals full (edit_of c.args.e).pointers)
 pointed c =
     let e = c.before.before.before.before in
-    c.check-pointings.ensures ∙ ap (λ (qs : List model.Pointer). passed (pointer_refusals full qs)) (sym (pointers_are e.before.before.args.e (within e)))
+    c.check_pointings-o.ensures ∙ ap (λ (qs : List model.Pointer). passed (pointer_refusals full qs)) (sym (pointers_are e.args.e (within e)))
 
-enum-known-o : tie.Need-enum-known-o
+enum-known-o : tie.Need-enum_known-o
 enum-known-o c = search rules
 
-enum_told : tie.Need-enum-told
+enum_told : tie.Need-enum_told-1
 enum_told c = search rules
 
-check-files-requires : tie.Need-check-files-requires
-check-files-requires c κs = fits c.before.before.before.before.before.before
+check-files-requires : tie.Need-check_files-requires
+check-files-requires c κs = fits c.before.before.before.before.before
 
-returns_3 : tie.Need-returns-3
+returns_3 : tie.Need-returns-in-Refused
 returns_3 c =
-    let d = c.before.before.before in
-    let m = edit_of d.before.before.before.before.before.before.args.e in
-    sym (rest d.before.before ∙ passed_refused (deletion_refusals full m.deletions ++ addition_refusals full m.additions) (pointer_refusals full m.pointers) _ (sym (pointed d) ∙ c.before.o.given.1))
+    let d = c.before in
+    let m = edit_of d.args.e in
+    sym (rest d.before.before ∙ passed_refused (deletion_refusals full m.deletions ++ addition_refusals full m.additions) (pointer_refusals full m.pointers) _ (sym (pointed d) ∙ c.in-Refused.is))
 
-returns-4 : tie.Need-returns-4
+returns-4 : tie.Need-returns-in-Done
 returns-4 c =
-    let t = c.before in
+    let t = c in
     let d = t.before.before in
-    let m = edit_of d.before.before.before.before.before.before.args.e in
-    c.check-files.ensures
-    ∙ sym (rest d.before.before ∙ passed_done (deletion_refusals full m.deletions ++ addition_refusals full m.additions) (pointer_refusals full m.pointers) (sym (pointed d) ∙ t.enum_told.given.1))
+    let m = edit_of d.args.e in
+    c.check_files.ensures
+    ∙ sym (rest d.before.before ∙ passed_done (deletion_refusals full m.deletions ++ addition_refusals full m.additions) (pointer_refusals full m.pointers) (sym (pointed d) ∙ t.in-Done.is))
 
 pub check_spec : {M : Type 1} → statement M
-check_spec =
-    tie.close
-    (tie.spec
-    has-too-many-requires
-    returns
-    has-bad-log-requires
-    returns_2
-    check-pointings-requires
-    enum-known-o
-    enum_told
-    check-files-requires
-    returns_3
-    returns-4)
+check_spec = tie.close (tie.spec has-too-many-requires returns has-bad-log-requires returns_2 check-pointings-requires enum-known-o enum_told check-files-requires returns_3 returns-4)

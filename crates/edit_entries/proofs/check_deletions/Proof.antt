@@ -27,55 +27,43 @@ near : (d : Deletion) → d.level < level_count → passed (deletion_refusals fu
 unfolding passed first_of outcome_of ◌⇒◌ deletion_refusals deletion_of full
 near d h = rw (lt-ltb d.level level_count h)
 
-abbrev invariant-loop : tie.invariant-loop
+abbrev invariant-loop : tie.invariant-loop-i
 invariant-loop count entries i₀ i = Tested deletions count entries i
 
-abbrev decreases-loop : tie.decreases-loop
+abbrev decreases-loop : tie.decreases-loop-i
 decreases-loop count entries i₀ i = count - i
 
-loop-holds : tie.Need-loop-init invariant-loop decreases-loop
+loop-holds : tie.Need-loop-i-init invariant-loop decreases-loop
 loop-holds c = (omega arith, refl)
 
-mul-if1 : tie.Need-overflow-mul-if1 invariant-loop decreases-loop
+mul-if1 : tie.Need-offset_bounds-deletions-i invariant-loop decreases-loop
 mul-if1 c = omega arith
 
-element-copy-out-if1 : tie.Need-element-copy-out-if1 invariant-loop decreases-loop
+element-copy-out-if1 : tie.Need-bounds-deletions-i invariant-loop decreases-loop
 element-copy-out-if1 c = omega arith
 
-returns : tie.Need-returns invariant-loop decreases-loop
+returns : tie.Need-returns-then-deletions-i-ge-COUNT invariant-loop decreases-loop
 returns c =
-    let l = c.before.before in
-    let s = l.before in
-    let q : length s.args.t1 ≡ max_deletions = search rules in
-    entry_refused deletions s.args.count s.args.t1 l.loop.i l.loop.invariant (omega arith) (omega arith) 1 (far (get_or s.args.t1 l.loop.i past_deletion) c.if1.true)
+    let l = c in
+    let s = l in
+    let q : length s.args.deletions ≡ max_deletions = search rules in
+    entry_refused deletions s.args.count s.args.deletions l.loop-i.i l.loop-i.invariant (omega arith) (omega arith) 1 (far (get_or s.args.deletions l.loop-i.i past_deletion) c.if-deletions-i-ge-COUNT.true)
 
-add-i : tie.Need-overflow-add-i invariant-loop decreases-loop
+add-i : tie.Need-overflow_add-i invariant-loop decreases-loop
 add-i c = omega arith
 
-loop-less : tie.Need-loop-smaller invariant-loop decreases-loop
+loop-less : tie.Need-loop-i-smaller invariant-loop decreases-loop
 loop-less c = omega arith
 
-loop-again : tie.Need-loop-preserved invariant-loop decreases-loop
+loop-again : tie.Need-loop-i-preserved invariant-loop decreases-loop
 loop-again c =
-    let l = c.before.before in
-    let s = l.before in
-    let q : length s.args.t1 ≡ max_deletions = search rules in
-    entry_done deletions s.args.count s.args.t1 l.loop.i l.loop.invariant (omega arith) (omega arith) (near (get_or s.args.t1 l.loop.i past_deletion) c.if1.false)
+    let l = c in
+    let s = l in
+    let q : length s.args.deletions ≡ max_deletions = search rules in
+    entry_done deletions s.args.count s.args.deletions l.loop-i.i l.loop-i.invariant (omega arith) (omega arith) (near (get_or s.args.deletions l.loop-i.i past_deletion) c.if-deletions-i-ge-COUNT.false)
 
-returns_2 : tie.Need-returns-2 invariant-loop decreases-loop
-returns_2 c = entries_done deletions c.before.before.args.count c.before.before.args.t1 c.before.loop.i c.before.loop.invariant (omega arith)
+returns_2 : tie.Need-returns invariant-loop decreases-loop
+returns_2 c = entries_done deletions c.args.count c.args.deletions c.loop-i.i c.loop-i.invariant (omega arith)
 
 pub check_deletions_spec : {M : Type 1} → statement M
-check_deletions_spec =
-    tie.close
-    (tie.spec
-    invariant-loop
-    decreases-loop
-    loop-holds
-    mul-if1
-    element-copy-out-if1
-    returns
-    add-i
-    loop-less
-    loop-again
-    returns_2)
+check_deletions_spec = tie.close (tie.spec invariant-loop decreases-loop loop-holds mul-if1 element-copy-out-if1 returns add-i loop-less loop-again returns_2)

@@ -10,20 +10,20 @@ use borrow.Author.Rules.{rules}
 use Rattle.edit_entries.proofs.check_pointing.Statement.{statement}
 use Rattle.edit_entries.proofs.check_pointing.Tie as tie
 
-returns : tie.Need-returns
+returns : tie.Need-returns-then-p-ge-COUNT
 unfolding passed first_of outcome_of ◌⇒◌ pointer_refusals pointing_of full
-returns c = rw (le-ltb _ _ c.if1.true)
+returns c = rw (le-ltb _ _ c.if-p-ge-COUNT.true)
 
-is-good-requires : tie.Need-is-good-requires
+is-good-requires : tie.Need-is_good-requires
 is-good-requires c κs = search rules
 
-returns_2 : tie.Need-returns-2
+returns_2 : tie.Need-returns-then-not-is_good
 unfolding passed first_of outcome_of ◌⇒◌ pointer_refusals pointing_of full
-returns_2 c = rw (lt-ltb _ _ c.before.before.before.if1.false, sym c.before.is-good.ensures ∙ not-true _ c.if2.true)
+returns_2 c = rw (lt-ltb _ _ c.if-p-ge-COUNT.false, sym c.is_good.ensures ∙ c.if-not-is_good.true)
 
-returns_3 : tie.Need-returns-3
+returns_3 : tie.Need-returns
 unfolding passed first_of outcome_of ◌⇒◌ pointer_refusals pointing_of full
-returns_3 c = rw (lt-ltb _ _ c.before.before.before.if1.false, sym c.before.is-good.ensures ∙ not-false _ c.if2.false)
+returns_3 c = rw (lt-ltb _ _ c.if-p-ge-COUNT.false, sym c.is_good.ensures ∙ c.if-not-is_good.false)
 
 pub check_pointing_spec : {M : Type 1} → statement M
 check_pointing_spec = tie.close (tie.spec returns is-good-requires returns_2 returns_3)

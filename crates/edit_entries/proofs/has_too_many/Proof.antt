@@ -19,20 +19,20 @@ last : (e : Edit) → HasRoom e → e.deletion_count ≤ max_deletions → e.add
 last e r h k true q = sym (many e r (λ w. let b = w.pointings in omega (arith, ltb-true max_pointers e.pointing_count q)))
 last e r h k false q = sym (enough e r (record { pointings = ltb-false max_pointers e.pointing_count q; deletions = h; additions = k }))
 
-returns : tie.Need-returns
+returns : tie.Need-returns-then-e-gt-DELETIONS
 returns c =
-    let s = c.before.before in
-    sym (many s.args.e (has_room s.args.e _ s.well-formed.0) (λ w. let b = w.deletions in omega arith))
+    let s = c in
+    sym (many s.args.e (has_room s.args.e _ s.well_formed.0) (λ w. let b = w.deletions in omega arith))
 
-returns_2 : tie.Need-returns-2
+returns_2 : tie.Need-returns-then-e-gt-ADDITIONS
 returns_2 c =
-    let s = c.before.before.before.before in
-    sym (many s.args.e (has_room s.args.e _ s.well-formed.0) (λ w. let b = w.additions in omega arith))
+    let s = c in
+    sym (many s.args.e (has_room s.args.e _ s.well_formed.0) (λ w. let b = w.additions in omega arith))
 
-returns_3 : tie.Need-returns-3
+returns_3 : tie.Need-returns
 returns_3 c =
-    let s = c.before.before.before.before.before in
-    last s.args.e (has_room s.args.e _ s.well-formed.0) (omega arith) (omega arith) (ltb max_pointers s.args.e.pointing_count) refl
+    let s = c in
+    last s.args.e (has_room s.args.e _ s.well_formed.0) (omega arith) (omega arith) (ltb max_pointers s.args.e.pointing_count) refl
 
 pub has_too_many_spec : {M : Type 1} → statement M
 has_too_many_spec = tie.close (tie.spec returns returns_2 returns_3)

@@ -9,20 +9,20 @@ use Rattle.answers.specs.OutcomeLaws.{passed_nil, passed_here, passed_later}
 use Rattle.edit_plan.proofs.crowded.Statement.{statement}
 use Rattle.edit_plan.proofs.crowded.Tie as tie
 
-returns : tie.Need-returns
+returns : tie.Need-returns-then-twice
 returns c =
-    let a = c.before.args in
-    sym (passed_here a.twice 6 ((ltb max_files a.total ⇒ 8) ∷ []) c.if1.true)
+    let a = c.args in
+    sym (passed_here a.twice 6 ((ltb max_files a.total ⇒ 8) ∷ []) c.if-twice.true)
 
-returns_2 : tie.Need-returns-2
+returns_2 : tie.Need-returns-then-total-gt-ROOM
 returns_2 c =
-    let a = c.before.before.args in
-    sym (passed_later a.twice 6 ((ltb max_files a.total ⇒ 8) ∷ []) c.before.if1.false ∙ passed_here (ltb max_files a.total) 8 [] (lt-ltb max_files a.total c.if2.true))
+    let a = c.args in
+    sym (passed_later a.twice 6 ((ltb max_files a.total ⇒ 8) ∷ []) c.if-twice.false ∙ passed_here (ltb max_files a.total) 8 [] (lt-ltb max_files a.total c.if-total-gt-ROOM.true))
 
-returns_3 : tie.Need-returns-3
+returns_3 : tie.Need-returns
 returns_3 c =
-    let a = c.before.before.args in
-    sym (passed_later a.twice 6 ((ltb max_files a.total ⇒ 8) ∷ []) c.before.if1.false ∙ passed_later (ltb max_files a.total) 8 [] (le-ltb max_files a.total c.if2.false) ∙ passed_nil)
+    let a = c.args in
+    sym (passed_later a.twice 6 ((ltb max_files a.total ⇒ 8) ∷ []) c.if-twice.false ∙ passed_later (ltb max_files a.total) 8 [] (le-ltb max_files a.total c.if-total-gt-ROOM.false) ∙ passed_nil)
 
 pub crowded_spec : {M : Type 1} → statement M
 crowded_spec = tie.close (tie.spec returns returns_2 returns_3)

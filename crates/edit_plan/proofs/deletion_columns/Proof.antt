@@ -15,7 +15,7 @@ use Rattle.edit_plan.specs.Planning.{levels_gone, numbers_gone}
 use Rattle.edit_plan.proofs.deletion_columns.Statement.{statement}
 use Rattle.edit_plan.proofs.deletion_columns.Tie as tie
 
-abbrev invariant-loop : tie.invariant-loop
+abbrev invariant-loop : tie.invariant-loop-i
 invariant-loop count levels₀ numbers₀ deletions i₀ levels numbers i =
     let level : Deletion → ℕ = λ d. d.level in
     let number : Deletion → ℕ = λ d. d.number.0 in
@@ -23,84 +23,67 @@ invariant-loop count levels₀ numbers₀ deletions i₀ levels numbers i =
     × (put levels i (map level (slice i count deletions)) ≡ put levels₀ 0 (map level (take count deletions)))
     × (put numbers i (map number (slice i count deletions)) ≡ put numbers₀ 0 (map number (take count deletions)))
 
-abbrev decreases-loop : tie.decreases-loop
+abbrev decreases-loop : tie.decreases-loop-i
 decreases-loop count levels₀ numbers₀ deletions i₀ levels numbers i = count - i
 
-loop-holds : tie.Need-loop-init invariant-loop decreases-loop
+loop-holds : tie.Need-loop-i-init invariant-loop decreases-loop
 loop-holds c = (omega arith, refl, refl, refl, refl)
 
-mul-d : tie.Need-overflow-mul-d invariant-loop decreases-loop
+mul-d : tie.Need-offset_bounds-deletions-i invariant-loop decreases-loop
 mul-d c = search rules
 
-array-copy-out-d : tie.Need-array-copy-out-d invariant-loop decreases-loop
+array-copy-out-d : tie.Need-bounds-deletions-i invariant-loop decreases-loop
 array-copy-out-d c = search rules
 
-mul-levels : tie.Need-overflow-mul-levels invariant-loop decreases-loop
+mul-levels : tie.Need-offset_bounds-levels-i invariant-loop decreases-loop
 mul-levels c = search rules
 
-slice-write-levels : tie.Need-slice-write-levels invariant-loop decreases-loop
+slice-write-levels : tie.Need-bounds-levels-i invariant-loop decreases-loop
 slice-write-levels c = search rules
 
-mul-numbers : tie.Need-overflow-mul-numbers invariant-loop decreases-loop
+mul-numbers : tie.Need-offset_bounds-numbers-i invariant-loop decreases-loop
 mul-numbers c = search rules
 
-slice-write-numbers : tie.Need-slice-write-numbers invariant-loop decreases-loop
+slice-write-numbers : tie.Need-bounds-numbers-i invariant-loop decreases-loop
 slice-write-numbers c = search rules
 
-add-i : tie.Need-overflow-add-i invariant-loop decreases-loop
+add-i : tie.Need-overflow_add-i invariant-loop decreases-loop
 add-i c = search rules
 
-loop-less : tie.Need-loop-smaller invariant-loop decreases-loop
+loop-less : tie.Need-loop-i-smaller invariant-loop decreases-loop
 loop-less c = search rules
 
-loop-again : tie.Need-loop-preserved invariant-loop decreases-loop
+loop-again : tie.Need-loop-i-preserved invariant-loop decreases-loop
 loop-again c =
-    let l = c.before.before.before in
-    let a = l.before.args in
-    let i = l.loop.i in
+    let l = c in
+    let a = l.args in
+    let i = l.loop-i.i in
     let level : Deletion → ℕ = λ d. d.level in
     let number : Deletion → ℕ = λ d. d.number.0 in
-    let it = get_or a.t1 i past_deletion in
-    let q : length a.t1 ≡ max_deletions = search (rules, length_of_map) in (
+    let it = get_or a.deletions i past_deletion in
+    let q : length a.deletions ≡ max_deletions = search (rules, length_of_map) in (
       omega arith,
-      length-set l.loop.levels i (level it) ∙ l.loop.invariant.1,
-      length-set l.loop.numbers i (number it) ∙ l.loop.invariant.2,
-      view_laid level i a.count a.t1 l.loop.levels past_deletion (omega arith) (omega arith) (omega arith) ∙ l.loop.invariant.3,
-      view_laid number i a.count a.t1 l.loop.numbers past_deletion (omega arith) (omega arith) (omega arith) ∙ l.loop.invariant.4,
+      length-set l.loop-i.levels i (level it) ∙ l.loop-i.invariant.1,
+      length-set l.loop-i.numbers i (number it) ∙ l.loop-i.invariant.2,
+      view_laid level i a.count a.deletions l.loop-i.levels past_deletion (omega arith) (omega arith) (omega arith) ∙ l.loop-i.invariant.3,
+      view_laid number i a.count a.deletions l.loop-i.numbers past_deletion (omega arith) (omega arith) (omega arith) ∙ l.loop-i.invariant.4,
     )
 
-same_length : tie.Need-same-length invariant-loop decreases-loop
+same_length : tie.Need-shape_of-levels invariant-loop decreases-loop
 same_length c = search rules
 
-same_length_2 : tie.Need-same-length-2 invariant-loop decreases-loop
+same_length_2 : tie.Need-shape_of-numbers invariant-loop decreases-loop
 same_length_2 c = search rules
 
 returns : tie.Need-returns invariant-loop decreases-loop
 unfolding levels_gone numbers_gone
 returns c =
-    let l = c.before in
-    let a = l.before.args in
-    let i = l.loop.i in (
-      sym (view_all_laid (λ (d : Deletion). d.level) i a.count a.t1 l.loop.levels (omega arith) (omega arith)) ∙ l.loop.invariant.3,
-      sym (view_all_laid (λ (d : Deletion). d.number.0) i a.count a.t1 l.loop.numbers (omega arith) (omega arith)) ∙ l.loop.invariant.4,
+    let l = c in
+    let a = l.args in
+    let i = l.loop-i.i in (
+      sym (view_all_laid (λ (d : Deletion). d.level) i a.count a.deletions l.loop-i.levels (omega arith) (omega arith)) ∙ l.loop-i.invariant.3,
+      sym (view_all_laid (λ (d : Deletion). d.number.0) i a.count a.deletions l.loop-i.numbers (omega arith) (omega arith)) ∙ l.loop-i.invariant.4,
     )
 
 pub deletion_columns_spec : {M : Type 1} → statement M
-deletion_columns_spec =
-    tie.close
-    (tie.spec
-    invariant-loop
-    decreases-loop
-    loop-holds
-    mul-d
-    array-copy-out-d
-    mul-levels
-    slice-write-levels
-    mul-numbers
-    slice-write-numbers
-    add-i
-    loop-less
-    loop-again
-    same_length
-    same_length_2
-    returns)
+deletion_columns_spec = tie.close (tie.spec invariant-loop decreases-loop loop-holds mul-d array-copy-out-d mul-levels slice-write-levels mul-numbers slice-write-numbers add-i loop-less loop-again same_length same_length_2 returns)

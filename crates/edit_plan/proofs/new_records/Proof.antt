@@ -18,86 +18,71 @@ use Rattle.edit_plan.specs.Planning.{news_of}
 use Rattle.edit_plan.proofs.new_records.Statement.{statement}
 use Rattle.edit_plan.proofs.new_records.Tie as tie
 
-abbrev invariant-loop : tie.invariant-loop
+abbrev invariant-loop : tie.invariant-loop-i
 invariant-loop count additions files₀ i₀ files i =
     let kept : Addition → FileRecord = λ a. record_of (addition_of a).file in
     (i ≤ count) × (length files ≡ max_additions)
     × (put files i (map kept (slice i count additions)) ≡ put (vacant max_additions) 0 (map kept (take count additions)))
 
-abbrev decreases-loop : tie.decreases-loop
+abbrev decreases-loop : tie.decreases-loop-i
 decreases-loop count additions files₀ i₀ files i = count - i
 
-no-records-requires : tie.Need-no-records-requires invariant-loop decreases-loop
+no-records-requires : tie.Need-no_records-files-requires invariant-loop decreases-loop
 no-records-requires c κs = search rules
 
-loop-holds : tie.Need-loop-init invariant-loop decreases-loop
+loop-holds : tie.Need-loop-i-init invariant-loop decreases-loop
 loop-holds c =
-    let a = c.before.args in
+    let a = c.args in
     let kept : Addition → FileRecord = λ x. record_of (addition_of x).file in (
       omega arith,
       search (rules, length_of_map),
-      ap (λ (z : List FileRecord). put z 0 (map kept (take a.count a.t1))) c.no-records.ensures,
+      ap (λ (z : List FileRecord). put z 0 (map kept (take a.count a.additions))) c.no_records-files.ensures,
     )
 
-mul-a : tie.Need-overflow-mul-a invariant-loop decreases-loop
+mul-a : tie.Need-offset_bounds-additions-i invariant-loop decreases-loop
 mul-a c = omega arith
 
-array-copy-out-a : tie.Need-array-copy-out-a invariant-loop decreases-loop
+array-copy-out-a : tie.Need-bounds-additions-i invariant-loop decreases-loop
 array-copy-out-a c = omega arith
 
 record-requires : tie.Need-record-requires invariant-loop decreases-loop
 record-requires c κs = search rules
 
-mul-files : tie.Need-overflow-mul-files invariant-loop decreases-loop
+mul-files : tie.Need-offset_bounds-files-i invariant-loop decreases-loop
 mul-files c = omega arith
 
-array-set-from-files : tie.Need-array-set-from-files invariant-loop decreases-loop
+array-set-from-files : tie.Need-bounds-files-i invariant-loop decreases-loop
 array-set-from-files c = omega arith
 
-add-i : tie.Need-overflow-add-i invariant-loop decreases-loop
+add-i : tie.Need-overflow_add-i invariant-loop decreases-loop
 add-i c = omega arith
 
-loop-less : tie.Need-loop-smaller invariant-loop decreases-loop
+loop-less : tie.Need-loop-i-smaller invariant-loop decreases-loop
 loop-less c = omega arith
 
-loop-again : tie.Need-loop-preserved invariant-loop decreases-loop
+loop-again : tie.Need-loop-i-preserved invariant-loop decreases-loop
 unfolding addition_of
 loop-again c =
-    let l = c.before.before.before.before.before.before in
-    let a = l.before.before.args in
-    let i = l.loop.i in
+    let l = c in
+    let a = l.args in
+    let i = l.loop-i.i in
     let kept : Addition → FileRecord = λ x. record_of (addition_of x).file in
-    let it = get_or a.t1 i past_addition in
-    let q : length a.t1 ≡ max_additions = search (rules, length_of_map) in
-    let made : set l.loop.files i c.«record».result ≡ set l.loop.files i (kept it) = ap (set l.loop.files i) c.«record».ensures in (
+    let it = get_or a.additions i past_addition in
+    let q : length a.additions ≡ max_additions = search (rules, length_of_map) in
+    let made : set l.loop-i.files i c.«record».result ≡ set l.loop-i.files i (kept it) = ap (set l.loop-i.files i) c.«record».ensures in (
       omega arith,
-      length-set l.loop.files i c.«record».result ∙ l.loop.invariant.1,
-      ap (λ (z : List FileRecord). put z (i + 1) (map kept (slice (i + 1) a.count a.t1))) made
-          ∙ view_laid kept i a.count a.t1 l.loop.files past_addition (omega arith) (omega arith) (omega arith)
-          ∙ l.loop.invariant.2,
+      length-set l.loop-i.files i c.«record».result ∙ l.loop-i.invariant.1,
+      ap (λ (z : List FileRecord). put z (i + 1) (map kept (slice (i + 1) a.count a.additions))) made
+          ∙ view_laid kept i a.count a.additions l.loop-i.files past_addition (omega arith) (omega arith) (omega arith)
+          ∙ l.loop-i.invariant.2,
     )
 
 returns : tie.Need-returns invariant-loop decreases-loop
 unfolding news_of full
 returns c =
-    let l = c.before in
-    let a = l.before.before.args in
-    sym (view_all_laid (λ (x : Addition). record_of (addition_of x).file) l.loop.i a.count a.t1 l.loop.files (omega arith) (omega arith)) ∙ l.loop.invariant.2
+    let l = c in
+    let a = l.args in
+    sym (view_all_laid (λ (x : Addition). record_of (addition_of x).file) l.loop-i.i a.count a.additions l.loop-i.files (omega arith) (omega arith)) ∙ l.loop-i.invariant.2
 
 pub new_records_spec : {M : Type 1} → statement M
-new_records_spec =
-    tie.close
-    (tie.spec
-    invariant-loop
-    decreases-loop
-    no-records-requires
-    loop-holds
-    mul-a
-    array-copy-out-a
-    record-requires
-    mul-files
-    array-set-from-files
-    add-i
-    loop-less
-    loop-again
-    returns)
+new_records_spec = tie.close (tie.spec invariant-loop decreases-loop no-records-requires loop-holds mul-a array-copy-out-a record-requires mul-files array-set-from-files add-i loop-less loop-again returns)

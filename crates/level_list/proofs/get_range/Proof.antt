@@ -16,50 +16,41 @@ use Rattle.level_list.proofs.Shape.{shape}
 use Rattle.level_list.proofs.get_range.Statement.{statement}
 use Rattle.level_list.proofs.get_range.Tie as tie
 
-no-range-requires : tie.Need-no-range-requires
+no-range-requires : tie.Need-no_range-requires
 no-range-requires c κs = search rules
 
-returns : tie.Need-returns
+returns : tie.Need-returns-then-level-ge-COUNT
 returns c =
-    let a = c.before.before.args in
-    c.no-range.ensures ∙ ap ranged (sym (range_beyond a.level a.l (omega arith)))
+    let a = c.args in
+    c.no_range.ensures ∙ ap ranged (sym (range_beyond a.level a.l (omega arith)))
 
-is-well-formed-requires : tie.Need-is-well-formed-requires
+is-well-formed-requires : tie.Need-is_well_formed-requires
 is-well-formed-requires c κs = search rules
 
-no-range-requires-2 : tie.Need-no-range-requires-2
+no-range-requires-2 : tie.Need-no_range-requires-then-not-is_well_formed
 no-range-requires-2 c κs = search rules
 
-returns_2 : tie.Need-returns-2
+returns_2 : tie.Need-returns-then-not-is_well_formed
 returns_2 c =
-    let w = c.before.before in
-    let a = w.before.before.args in
-    c.no-range2.ensures
-    ∙ ap ranged (sym (range_bad a.level a.l (omega arith) (sym w.is-well-formed.ensures ∙ not-true w.is-well-formed.result c.before.if2.true)))
+    let w = c in
+    let a = w.args in
+    c.no_range-then-not-is_well_formed.ensures
+    ∙ ap ranged (sym (range_bad a.level a.l (omega arith) (sym w.is_well_formed.ensures ∙ c.if-not-is_well_formed.true)))
 
-get-range-requires : tie.Need-get-range-requires
+get-range-requires : tie.Need-get_range-ends-requires
 get-range-requires c κs = search rules
 
-returns_3 : tie.Need-returns-3
+returns_3 : tie.Need-returns
 returns_3 c =
-    let r = c.before in
-    let e = r.before.before in
-    let w = e.before in
-    let a = w.before.before.args in
-    let q : length a.l.files ≡ max_files = (shape a.l _ w.before.before.well-formed.1.0).files in
-    let well : well_list a.level a.l ≡ true = sym w.is-well-formed.ensures ∙ not-false w.is-well-formed.result e.if2.false in
-    ap (λ (x : Ends). record { outcome = Done; found = ltb 0 a.l.count; ends = x }) (r.get-range.ensures ∙ ap ends_of (files_run a.l))
+    let r = c in
+    let e = r in
+    let w = e in
+    let a = w.args in
+    let q : length a.l.files ≡ max_files = (shape a.l _ w.well_formed.1.0).files in
+    let well : well_list a.level a.l ≡ true = sym w.is_well_formed.ensures ∙ e.if-not-is_well_formed.false in
+    ap (λ (x : Ends). record { outcome = Done; found = ltb 0 a.l.count; ends = x }) (r.get_range-ends.ensures ∙ ap ends_of (files_run a.l))
     ∙ ranged_is a.l.count (files_of a.l) (files_count a.level a.l q well)
     ∙ ap ranged (sym (range_good a.level a.l (omega arith) well))
 
 pub get_range_spec : {M : Type 1} → statement M
-get_range_spec =
-    tie.close
-    (tie.spec
-    no-range-requires
-    returns
-    is-well-formed-requires
-    no-range-requires-2
-    returns_2
-    get-range-requires
-    returns_3)
+get_range_spec = tie.close (tie.spec no-range-requires returns is-well-formed-requires no-range-requires-2 returns_2 get-range-requires returns_3)

@@ -10,7 +10,7 @@ use borrow.Author.Rules.{rules}
 use Rattle.pick_found.proofs.follows.Statement.{statement}
 use Rattle.pick_found.proofs.follows.Tie as tie
 
-user-precedes-requires : tie.Need-user-precedes-requires
+user-precedes-requires : tie.Need-user_precedes-requires
 user-precedes-requires c κs = search rules
 
 -- a key whose user key is after the other's does not follow it
@@ -22,24 +22,24 @@ later false b e = refl
 same : (a b : Bool) → b ≡ false → a ≡ (a && not b)
 same a b e = rw e (sym (and_true a))
 
-returns : tie.Need-returns
+returns : tie.Need-returns-then-user_precedes
 unfolding follows older_than file_of
 returns c =
-    let a = c.before.before.before.args in
+    let a = c.args in
     let k = key_of a.high in
     let low = key_of a.f.smallest in
-    later (before k low) (user_before (user k) (user low)) (sym c.before.user-precedes.ensures ∙ c.if1.true)
+    later (before k low) (user_before (user k) (user low)) (sym c.user_precedes.ensures ∙ c.if-user_precedes.true)
 
-is-before-requires : tie.Need-is-before-requires
+is-before-requires : tie.Need-is_before-requires
 is-before-requires c κs = search rules
 
-returns_2 : tie.Need-returns-2
+returns_2 : tie.Need-returns
 unfolding follows older_than file_of
 returns_2 c =
-    let a = c.before.before.before.before.args in
+    let a = c.args in
     let k = key_of a.high in
     let low = key_of a.f.smallest in
-    c.is-before.ensures ∙ same (before k low) (user_before (user k) (user low)) (sym c.before.before.user-precedes.ensures ∙ c.before.if1.false)
+    c.is_before.ensures ∙ same (before k low) (user_before (user k) (user low)) (sym c.user_precedes.ensures ∙ c.if-user_precedes.false)
 
 pub follows_spec : {M : Type 1} → statement M
 follows_spec = tie.close (tie.spec user-precedes-requires returns is-before-requires returns_2)

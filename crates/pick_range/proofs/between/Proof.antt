@@ -5,17 +5,17 @@ use borrow.Author.Rules.{rules}
 use Rattle.pick_range.proofs.between.Statement.{statement}
 use Rattle.pick_range.proofs.between.Tie as tie
 
-user-key-requires : tie.Need-user-key-requires
+user-key-requires : tie.Need-user_key-start-requires
 user-key-requires c κs = search rules
 
-user-key-requires-2 : tie.Need-user-key-requires-2
+user-key-requires-2 : tie.Need-user_key-stop-requires
 user-key-requires-2 c κs = search rules
 
 returns : tie.Need-returns
 unfolding span_record between
 returns c =
-    let start = c.before.user-key.ensures in
-    let stop = c.user-key2.ensures in
+    let start = c.user_key-start.ensures in
+    let stop = c.user_key-stop.ensures in
     λ i. record { start = start i; stop = stop i }
 
 pub between_spec : {M : Type 1} → statement M

@@ -14,71 +14,57 @@ use Rattle.pick_range.specs.RangesLaws.{any_run_found, any_run_passed, any_run_e
 use Rattle.pick_range.proofs.has_overlap.Statement.{statement}
 use Rattle.pick_range.proofs.has_overlap.Tie as tie
 
-abbrev invariant-loop : tie.invariant-loop
+abbrev invariant-loop : tie.invariant-loop-i
 invariant-loop from to span files end i₀ i = any (overlaps (span_of span)) (run from to files) ≡ any (overlaps (span_of span)) (run i end files)
 
-abbrev decreases-loop : tie.decreases-loop
+abbrev decreases-loop : tie.decreases-loop-i
 decreases-loop from to span files end i₀ i = end - i
 
-within-requires : tie.Need-within-requires invariant-loop decreases-loop
+within-requires : tie.Need-within-end-requires invariant-loop decreases-loop
 within-requires c κs = search rules
 
-loop-holds : tie.Need-loop-init invariant-loop decreases-loop
+loop-holds : tie.Need-loop-i-init invariant-loop decreases-loop
 loop-holds c =
-    let s = c.before in
-    let q : length s.args.t1 ≡ max_files = search rules in
-    rw c.within.ensures (ap (any (overlaps (span_of s.args.span))) (sym (run_room s.args.from s.args.to s.args.t1 max_files q)))
+    let s = c in
+    let q : length s.args.files ≡ max_files = search rules in
+    rw c.within-end.ensures (ap (any (overlaps (span_of s.args.span))) (sym (run_room s.args.from s.args.to s.args.files max_files q)))
 
-mul-overlaps : tie.Need-overflow-mul-overlaps invariant-loop decreases-loop
+mul-overlaps : tie.Need-offset_bounds-files-i invariant-loop decreases-loop
 mul-overlaps c = omega arith
 
-array-copy-out-overlaps : tie.Need-array-copy-out-overlaps invariant-loop decreases-loop
+array-copy-out-overlaps : tie.Need-bounds-files-i invariant-loop decreases-loop
 array-copy-out-overlaps c = omega arith
 
 overlaps-requires : tie.Need-overlaps-requires invariant-loop decreases-loop
 overlaps-requires c κs = search rules
 
-returns : tie.Need-returns invariant-loop decreases-loop
+returns : tie.Need-returns-then-overlaps invariant-loop decreases-loop
 returns c =
-    let l = c.before.before.before.before in
-    let a = l.before.before.args in
-    let q : length a.t1 ≡ max_files = search rules in
-    let t = sym c.before.overlaps.ensures ∙ c.if1.true in
-    sym (l.loop.invariant ∙ any_run_found (overlaps (span_of a.span)) l.loop.i l.before.within.result a.t1 (omega arith) (omega arith) t)
+    let l = c in
+    let a = l.args in
+    let q : length a.files ≡ max_files = search rules in
+    let t = sym c.overlaps.ensures ∙ c.if-overlaps.true in
+    sym (l.loop-i.invariant ∙ any_run_found (overlaps (span_of a.span)) l.loop-i.i l.within-end.result a.files (omega arith) (omega arith) t)
 
-add-i : tie.Need-overflow-add-i invariant-loop decreases-loop
+add-i : tie.Need-overflow_add-i invariant-loop decreases-loop
 add-i c = omega arith
 
-loop-less : tie.Need-loop-smaller invariant-loop decreases-loop
+loop-less : tie.Need-loop-i-smaller invariant-loop decreases-loop
 loop-less c = omega arith
 
-loop-again : tie.Need-loop-preserved invariant-loop decreases-loop
+loop-again : tie.Need-loop-i-preserved invariant-loop decreases-loop
 loop-again c =
-    let l = c.before.before.before.before in
-    let a = l.before.before.args in
-    let q : length a.t1 ≡ max_files = search rules in
-    let t = sym c.before.overlaps.ensures ∙ c.if1.false in
-    l.loop.invariant ∙ any_run_passed (overlaps (span_of a.span)) l.loop.i l.before.within.result a.t1 (omega arith) (omega arith) t
+    let l = c in
+    let a = l.args in
+    let q : length a.files ≡ max_files = search rules in
+    let t = sym c.overlaps.ensures ∙ c.if-overlaps.false in
+    l.loop-i.invariant ∙ any_run_passed (overlaps (span_of a.span)) l.loop-i.i l.within-end.result a.files (omega arith) (omega arith) t
 
-returns_2 : tie.Need-returns-2 invariant-loop decreases-loop
+returns_2 : tie.Need-returns invariant-loop decreases-loop
 returns_2 c =
-    let l = c.before in
-    let a = l.before.before.args in
-    sym (l.loop.invariant ∙ any_run_ended (overlaps (span_of a.span)) l.loop.i l.before.within.result a.t1 (omega arith))
+    let l = c in
+    let a = l.args in
+    sym (l.loop-i.invariant ∙ any_run_ended (overlaps (span_of a.span)) l.loop-i.i l.within-end.result a.files (omega arith))
 
 pub has_overlap_spec : {M : Type 1} → statement M
-has_overlap_spec =
-    tie.close
-    (tie.spec
-    invariant-loop
-    decreases-loop
-    within-requires
-    loop-holds
-    mul-overlaps
-    array-copy-out-overlaps
-    overlaps-requires
-    returns
-    add-i
-    loop-less
-    loop-again
-    returns_2)
+has_overlap_spec = tie.close (tie.spec invariant-loop decreases-loop within-requires loop-holds mul-overlaps array-copy-out-overlaps overlaps-requires returns add-i loop-less loop-again returns_2)

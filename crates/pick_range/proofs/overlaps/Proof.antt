@@ -8,22 +8,21 @@ use borrow.Author.Rules.{rules}
 use Rattle.pick_range.proofs.overlaps.Statement.{statement}
 use Rattle.pick_range.proofs.overlaps.Tie as tie
 
-user-is-after-requires : tie.Need-user-is-after-requires
+user-is-after-requires : tie.Need-user_is_after-requires
 user-is-after-requires c κs = search rules
 
-returns : tie.Need-returns
+returns : tie.Need-returns-then-user_is_after
 unfolding overlaps span_of file_of
 returns c =
-    rw (sym c.before.user-is-after.ensures ∙ c.if1.true)
+    rw (sym c.user_is_after.ensures ∙ c.if-user_is_after.true)
 
-user-is-before-requires : tie.Need-user-is-before-requires
+user-is-before-requires : tie.Need-user_is_before-requires
 user-is-before-requires c κs = search rules
 
-returns_2 : tie.Need-returns-2
+returns_2 : tie.Need-returns
 unfolding overlaps span_of file_of
 returns_2 c =
-    rw (sym c.before.before.before.before.user-is-after.ensures ∙ c.before.before.before.if1.false) (ap not c.user-is-before.ensures)
+    rw (sym c.user_is_after.ensures ∙ c.if-user_is_after.false) (ap not c.user_is_before.ensures)
 
 pub overlaps_spec : {M : Type 1} → statement M
-overlaps_spec =
-    tie.close (tie.spec user-is-after-requires returns user-is-before-requires returns_2)
+overlaps_spec = tie.close (tie.spec user-is-after-requires returns user-is-before-requires returns_2)

@@ -7,16 +7,16 @@ use borrow.Author.Rules.{rules}
 use Rattle.pick_range.proofs.user_if.Statement.{statement}
 use Rattle.pick_range.proofs.user_if.Tie as tie
 
-user-key-requires : tie.Need-user-key-requires
+user-key-requires : tie.Need-user_key-requires
 user-key-requires c κs = search rules
 
-returns : tie.Need-returns
+returns : tie.Need-returns-then-taken
 returns c =
-    let a = c.before.before.args in
-    rw c.before.if1.true (ap user_of c.user-key.ensures ∙ user_of_record (user (key_of a.k)) (user_short a.k))
+    let a = c.args in
+    rw c.if-taken.true (ap user_of c.user_key.ensures ∙ user_of_record (user (key_of a.k)) (user_short a.k))
 
-returns_2 : tie.Need-returns-2
-returns_2 c = rw c.if1.false
+returns_2 : tie.Need-returns
+returns_2 c = rw c.if-taken.false
 
 pub user_if_spec : {M : Type 1} → statement M
 user_if_spec = tie.close (tie.spec user-key-requires returns returns_2)

@@ -18,30 +18,30 @@ use Rattle.pick_search.specs.Choice.{asked_level, asked_span, asked_most, asked_
 use Rattle.pick_search.proofs.asked.Statement.{statement}
 use Rattle.pick_search.proofs.asked.Tie as tie
 
-asked-level-requires : tie.Need-asked-level-requires
+asked-level-requires : tie.Need-asked_level-level-requires
 asked-level-requires c κs = search rules
 
-start-of-requires : tie.Need-start-of-requires
+start-of-requires : tie.Need-start_of-from-requires
 start-of-requires c κs = search rules
 
-mul-to : tie.Need-overflow-mul-to
+mul-to : tie.Need-offset_bounds-counts-level
 mul-to c = search rules
 
-array-read-to : tie.Need-array-read-to
+array-read-to : tie.Need-bounds-counts-level
 array-read-to c = search rules
 
-add-to : tie.Need-overflow-add-to
+add-to : tie.Need-overflow_add-to
 add-to c =
-    let l = c.before.before in
-    omega (arith, c.start_of_lem.ensures, sum_upto l.asked-level.result l.before.args.t3, l.before.requires.2)
+    let l = c in
+    omega (arith, c.start_of-from.ensures, sum_upto l.asked_level-level.result l.args.counts, l.requires.2)
 
-asked-span-requires : tie.Need-asked-span-requires
+asked-span-requires : tie.Need-asked_span-span-requires
 asked-span-requires c κs = search rules
 
-asked-most-requires : tie.Need-asked-most-requires
+asked-most-requires : tie.Need-asked_most-requires
 asked-most-requires c κs = search rules
 
-asked-edges-requires : tie.Need-asked-edges-requires
+asked-edges-requires : tie.Need-asked_edges-requires
 asked-edges-requires c κs = search rules
 
 -- a question, part by part
@@ -53,28 +53,17 @@ question_is c k counts n from to most span edges e f t s m d = rw (t, f, s, m, d
 
 returns : tie.Need-returns
 returns c =
-    let b = c.before in
-    let i = b.before.before in
-    let l = i.before in
-    let a = l.before.args in
-    let n = l.asked-level.result in
-    let size : length a.t3 ≡ level_count = search (rules, l.before.well-formed.1.1.0) in
-    let from : i.if1.from ≡ cond (ltb n level_count) (sum (take n a.t3)) 0 = ⊎_elim (λ w. w.2 ∙ w.1.ensures ∙ rw (lt-ltb n level_count w.0.taken)) (λ w. w.1 ∙ rw (le-ltb n level_count w.0.left)) i.if1.branch in
-    let to : i.if1.to ≡ i.if1.from + get_or a.t3 n 0 =
-    ⊎_elim (λ w. w.3 ∙ ap (λ (m : ℕ). m + get_or a.t3 n 0) (sym w.2))
-    (λ w. let none : get_or a.t3 n 0 ≡ 0 = get_or-eq_default a.t3 0 (omega (arith, w.0.left)) in omega (arith, w.1, w.2)) i.if1.branch in
-    question_is a.c a.k a.t3 n i.if1.from i.if1.to b.asked-most.result b.before.asked-span.result c.asked-edges.result l.asked-level.ensures from to b.before.asked-span.ensures b.asked-most.ensures c.asked-edges.ensures
+    let b = c in
+    let i = b in
+    let l = i in
+    let a = l.args in
+    let n = l.asked_level-level.result in
+    let size : length a.counts ≡ level_count = search (rules, l.well_formed.1.1.0) in
+    let from : i.if-level-lt-COUNT.from ≡ cond (ltb n level_count) (sum (take n a.counts)) 0 = ⊎_elim (λ w. w.from-is ∙ w.start_of-from.ensures ∙ rw (lt-ltb n level_count w.if-level-lt-COUNT.true)) (λ w. w.from-is ∙ rw (le-ltb n level_count w.if-level-lt-COUNT.false)) i.if-level-lt-COUNT.branch-raw in
+    let to : i.if-level-lt-COUNT.to ≡ i.if-level-lt-COUNT.from + get_or a.counts n 0 =
+    ⊎_elim (λ w. w.to-is ∙ ap (λ (m : ℕ). m + get_or a.counts n 0) (sym w.from-is))
+    (λ w. let none : get_or a.counts n 0 ≡ 0 = get_or-eq_default a.counts 0 (omega (arith, w.if-level-lt-COUNT.false)) in omega (arith, w.from-is, w.to-is)) i.if-level-lt-COUNT.branch-raw in
+    question_is a.c a.k a.counts n i.if-level-lt-COUNT.from i.if-level-lt-COUNT.to b.asked_most.result b.asked_span-span.result c.asked_edges.result l.asked_level-level.ensures from to b.asked_span-span.ensures b.asked_most.ensures c.asked_edges.ensures
 
 pub asked_spec : {M : Type 1} → statement M
-asked_spec =
-    tie.close
-    (tie.spec
-    asked-level-requires
-    start-of-requires
-    mul-to
-    array-read-to
-    add-to
-    asked-span-requires
-    asked-most-requires
-    asked-edges-requires
-    returns)
+asked_spec = tie.close (tie.spec asked-level-requires start-of-requires mul-to array-read-to add-to asked-span-requires asked-most-requires asked-edges-requires returns)

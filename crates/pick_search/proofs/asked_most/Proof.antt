@@ -7,9 +7,9 @@ use Rattle.pick_search.specs.Choice.{asked_most}
 use Rattle.pick_search.proofs.asked_most.Statement.{statement}
 use Rattle.pick_search.proofs.asked_most.Tie as tie
 
-returns : tie.Need-returns
+returns : tie.Need-returns-then-k-eq-FIRST
 unfolding asked_most
-returns c = rw c.if1.true
+returns c = rw c.if-k-eq-FIRST.true
 
 -- any search but the first has no limit
 unlimited : (c : Choice) (k : ℕ) → (k ≡ 0 → ⊥) → max_word ≡ asked_most c k
@@ -17,10 +17,10 @@ unfolding asked_most
 unlimited c zero h = absurd (h refl)
 unlimited c (suc k) h = refl
 
-returns_2 : tie.Need-returns-2
+returns_2 : tie.Need-returns
 returns_2 c =
-    let a = c.before.args in
-    unlimited a.c a.k c.if1.false
+    let a = c.args in
+    unlimited a.c a.k c.if-k-eq-FIRST.false
 
 pub asked_most_spec : {M : Type 1} → statement M
 asked_most_spec = tie.close (tie.spec returns returns_2)

@@ -12,22 +12,22 @@ use Rattle.pick_search.specs.Choice.{edge_question}
 use Rattle.pick_search.proofs.edge_question.Statement.{statement}
 use Rattle.pick_search.proofs.edge_question.Tie as tie
 
-blank-key-requires : tie.Need-blank-key-requires
+blank-key-requires : tie.Need-blank_key-key-requires
 blank-key-requires c κs = search rules
 
-between-requires : tie.Need-between-requires
+between-requires : tie.Need-between-span-requires
 between-requires c κs = search rules
 
-asked-edges-requires : tie.Need-asked-edges-requires
+asked-edges-requires : tie.Need-asked_edges-requires
 asked-edges-requires c κs = search rules
 
 returns : tie.Need-returns
 unfolding edge_question
 returns c =
-    let b = c.before in
-    let none : key_of b.before.blank_key_lem.result ≡ [] = ap key_of b.before.blank_key_lem.ensures ∙ key_of_record [] (omega arith) in
-    let span : b.between.result ≡ span_record (between [] []) = b.between.ensures ∙ ap (λ (k : List ℕ). span_record (between k k)) none in
-    rw (span, c.asked-edges.ensures)
+    let b = c in
+    let none : key_of b.blank_key-key.result ≡ [] = ap key_of b.blank_key-key.ensures ∙ key_of_record [] (omega arith) in
+    let span : b.between-span.result ≡ span_record (between [] []) = b.between-span.ensures ∙ ap (λ (k : List ℕ). span_record (between k k)) none in
+    rw (span, c.asked_edges.ensures)
 
 pub edge_question_spec : {M : Type 1} → statement M
 edge_question_spec = tie.close (tie.spec blank-key-requires between-requires asked-edges-requires returns)

@@ -11,43 +11,43 @@ use Rattle.pick_search.specs.CompleteLaws.{second_fails, third_fails}
 use Rattle.pick_search.proofs.grows.Statement.{statement}
 use Rattle.pick_search.proofs.grows.Tie as tie
 
-returns : tie.Need-returns
+returns : tie.Need-returns-then-c-eq0
 unfolding grows_by
-returns c = rw c.if1.true
+returns c = rw c.if-c-eq0.true
 
-returns_2 : tie.Need-returns-2
+returns_2 : tie.Need-returns-then-c
 unfolding grows_by
 returns_2 c =
-    let a = c.before.before.before.before.args in
+    let a = c.args in
     let d = a.c in
     sym (second_fails (not (eqb d.second.count 0)) (ltb d.first.count d.grown.count) (ltb (d.grown.bytes + d.second.bytes) (25 * d.maximum)) (eqb a.again d.second.count)
-    (le-ltb d.first.count d.grown.count c.if2.true))
+    (le-ltb d.first.count d.grown.count c.if-c.true))
 
-mul-if3 : tie.Need-overflow-mul-if3
+mul-if3 : tie.Need-overflow_mul-c
 mul-if3 c = search rules
 
-add-if3 : tie.Need-overflow-add-if3
+add-if3 : tie.Need-overflow_add-c
 add-if3 c = search rules
 
-returns_3 : tie.Need-returns-3
+returns_3 : tie.Need-returns-then-c-2
 unfolding grows_by
 returns_3 c =
-    let a = c.before.before.before.before.before.before.before.args in
+    let a = c.args in
     let d = a.c in
     sym (third_fails (not (eqb d.second.count 0)) (ltb d.first.count d.grown.count) (ltb (d.grown.bytes + d.second.bytes) (25 * d.maximum)) (eqb a.again d.second.count)
-    (le-ltb (d.grown.bytes + d.second.bytes) (25 * d.maximum) (omega (arith, c.if3.true))))
+    (le-ltb (d.grown.bytes + d.second.bytes) (25 * d.maximum) (omega (arith, c.if-c-2.true))))
 
-returns-4 : tie.Need-returns-4
+returns-4 : tie.Need-returns
 unfolding grows_by
 returns-4 c =
-    let third = c.before in
-    let second = third.before.before.before in
-    let first = second.before.before in
-    let d = first.before.before.args.c in
+    let third = c in
+    let second = third in
+    let first = second in
+    let d = first.args.c in
     rw (
-      ne_eqb d.second.count 0 first.if1.false,
-      lt-ltb d.first.count d.grown.count second.if2.false,
-      lt-ltb (d.grown.bytes + d.second.bytes) (25 * d.maximum) (omega (arith, third.if3.false)),
+      ne_eqb d.second.count 0 first.if-c-eq0.false,
+      lt-ltb d.first.count d.grown.count second.if-c.false,
+      lt-ltb (d.grown.bytes + d.second.bytes) (25 * d.maximum) (omega (arith, third.if-c-2.false)),
     )
 
 pub grows_spec : {M : Type 1} → statement M

@@ -5,10 +5,10 @@ use Rattle.pick_search.specs.Choice.{runs_of}
 use Rattle.pick_search.proofs.runs_of.Statement.{statement}
 use Rattle.pick_search.proofs.runs_of.Tie as tie
 
-add-m : tie.Need-overflow-add-m
+add-m : tie.Need-overflow_add-m
 add-m c = search rules
 
-add-t4 : tie.Need-overflow-add-t4
+add-t4 : tie.Need-overflow_add-result
 add-t4 c = search rules
 
 returns : tie.Need-returns

@@ -4,35 +4,34 @@ use mathlib.Core.Path.{◌≡◌, refl, sym, ap, ◌∙◌}
 use mathlib.Core.Bool.{true}
 use native.Mathlib.Omega.{arith}
 use lib.Dec.{ltb}
-use borrow.Author.Tests.{not-true, not-false}
 use borrow.Author.Rules.{rules}
 use Rattle.lemmas.specs.Order.{clash}
 use Rattle.pick_search.specs.Search.{takes_next}
 use Rattle.pick_search.proofs.swept.Statement.{statement}
 use Rattle.pick_search.proofs.swept.Tie as tie
 
-takes-next-requires : tie.Need-takes-next-requires
+takes-next-requires : tie.Need-takes_next-requires
 takes-next-requires c κs = search rules
 
-returns : tie.Need-returns
+returns : tie.Need-returns-then-not-takes_next
 returns c =
-    let e = sym c.before.takes-next.ensures ∙ not-true c.before.takes-next.result c.if1.true in
+    let e = sym c.takes_next.ensures ∙ c.if-not-takes_next.true in
     record { ends = λ h. refl; grows = λ h. clash h e; goes_on = λ h. clash h e }
 
-with-file-requires : tie.Need-with-file-requires
+with-file-requires : tie.Need-with_file-more-requires
 with-file-requires c κs = search rules
 
-add-next : tie.Need-overflow-add-next
+add-next : tie.Need-overflow_add-next
 add-next c = search rules
 
-returns_2 : tie.Need-returns-2
+returns_2 : tie.Need-returns
 returns_2 c =
-    let w = c.before.before.with_file.ensures in
-    let b = c.before.before.before.before in
-    let a = b.before.before.args in
+    let w = c.with_file-more.ensures in
+    let b = c in
+    let a = b.args in
     let t = takes_next a.q a.edge a.w.found a.f in
-    let e : t ≡ true = ◌∙◌ {a = t} (sym {b = t} b.takes-next.ensures) (not-false b.takes-next.result c.before.before.before.if1.false) in
-    let same : c.before.before.with_file.result.from + c.before.before.with_file.result.count ≡ a.w.found.from + a.w.found.count + 1 = omega (arith, w.0, w.1) in
+    let e : t ≡ true = ◌∙◌ {a = t} (sym {b = t} b.takes_next.ensures) (c.if-not-takes_next.false) in
+    let same : c.with_file-more.result.from + c.with_file-more.result.count ≡ a.w.found.from + a.w.found.count + 1 = omega (arith, w.0, w.1) in
     record {
       ends = λ h. clash e h;
       grows = λ h. record { from = w.0; count = w.1; low = w.2; high = w.3; bytes = w.4 };

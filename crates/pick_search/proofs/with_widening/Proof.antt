@@ -4,7 +4,7 @@ use Rattle.pick_search.specs.Search.{spanning}
 use Rattle.pick_search.proofs.with_widening.Statement.{statement}
 use Rattle.pick_search.proofs.with_widening.Tie as tie
 
-widened-requires : tie.Need-widened-requires
+widened-requires : tie.Need-widened-wide-requires
 widened-requires c κs = search rules
 
 returns : tie.Need-returns

@@ -5,19 +5,19 @@ use borrow.Author.Rules.{rules}
 use Rattle.script_lines.proofs.hex_digit.Statement.{statement}
 use Rattle.script_lines.proofs.hex_digit.Tie as tie
 
-add-result : tie.Need-overflow-add-result
+add-result : tie.Need-overflow_add-result
 add-result c = search rules
 
-returns : tie.Need-returns
-returns c = λ h. rw (lt-ltb c.before.args.x 10 c.if1.true)
+returns : tie.Need-returns-then-x-lt10
+returns c = λ h. rw (lt-ltb c.args.x 10 c.if-x-lt10.true)
 
-add-result-2 : tie.Need-overflow-add-result-2
+add-result-2 : tie.Need-overflow_add-result-then-x-lt16
 add-result-2 c = search rules
 
-returns_2 : tie.Need-returns-2
-returns_2 c = λ h. rw (le-ltb c.before.before.args.x 10 c.before.if1.false) (omega arith)
+returns_2 : tie.Need-returns-then-x-lt16
+returns_2 c = λ h. rw (le-ltb c.args.x 10 c.if-x-lt10.false) (omega arith)
 
-returns_3 : tie.Need-returns-3
+returns_3 : tie.Need-returns
 returns_3 c = search rules
 
 pub hex_digit_spec : {M : Type 1} → statement M

@@ -5,42 +5,26 @@ use borrow.Author.Rules.{rules}
 use Rattle.script_table.proofs.is_held.Statement.{statement}
 use Rattle.script_table.proofs.is_held.Tie as tie
 
-slice-aggregate-is-word : tie.Need-slice-aggregate-is-word
-slice-aggregate-is-word c = search rules
-
-is-word-requires : tie.Need-is-word-requires
+is-word-requires : tie.Need-is_word-requires
 is-word-requires c κs = search rules
 
-returns : tie.Need-returns
+returns : tie.Need-returns-then-is_word
 unfolding held_word
-returns c = simp (sym c.before.is_IsWord.ensures ∙ c.if1.true)
+returns c = simp (sym c.is_word.ensures ∙ c.if-is_word.true)
 
-slice-aggregate-is-word-2 : tie.Need-slice-aggregate-is-word-2
-slice-aggregate-is-word-2 c = search rules
-
-is-word-requires-2 : tie.Need-is-word-requires-2
+is-word-requires-2 : tie.Need-is_word-requires-2
 is-word-requires-2 c κs = search rules
 
-returns_2 : tie.Need-returns-2
+returns_2 : tie.Need-returns-then-is_word-2
 unfolding held_word
-returns_2 c = simp (sym c.before.before.before.before.is_IsWord.ensures ∙ c.before.before.before.if1.false, sym c.before.is-word2.ensures ∙ c.if2.true)
+returns_2 c = simp (sym c.is_word.ensures ∙ c.if-is_word.false, sym c.is_word-2.ensures ∙ c.if-is_word-2.true)
 
-is-bytes-requires : tie.Need-is-bytes-requires
+is-bytes-requires : tie.Need-is_bytes-requires
 is-bytes-requires c κs = search rules
 
-returns_3 : tie.Need-returns-3
+returns_3 : tie.Need-returns
 unfolding held_word
-returns_3 c = simp (sym c.before.before.before.before.before.is_IsWord.ensures ∙ c.before.before.before.before.if1.false, sym c.before.before.is-word2.ensures ∙ c.before.if2.false) c.is-bytes.ensures
+returns_3 c = simp (sym c.is_word.ensures ∙ c.if-is_word.false, sym c.is_word-2.ensures ∙ c.if-is_word-2.false) c.is_bytes.ensures
 
 pub is_held_spec : {M : Type 1} → statement M
-is_held_spec =
-    tie.close
-    (tie.spec
-    slice-aggregate-is-word
-    is-word-requires
-    returns
-    slice-aggregate-is-word-2
-    is-word-requires-2
-    returns_2
-    is-bytes-requires
-    returns_3)
+is_held_spec = tie.close (tie.spec is-word-requires returns is-word-requires-2 returns_2 is-bytes-requires returns_3)

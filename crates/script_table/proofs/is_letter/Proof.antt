@@ -5,33 +5,19 @@ use borrow.Author.Rules.{rules}
 use Rattle.script_table.proofs.is_letter.Statement.{statement}
 use Rattle.script_table.proofs.is_letter.Tie as tie
 
-slice-aggregate-is-word : tie.Need-slice-aggregate-is-word
-slice-aggregate-is-word c = search rules
-
-is-word-requires : tie.Need-is-word-requires
+is-word-requires : tie.Need-is_word-requires
 is-word-requires c κs = search rules
 
-returns : tie.Need-returns
+returns : tie.Need-returns-then-is_word
 unfolding letter_word
-returns c = simp (sym c.before.is_IsWord.ensures ∙ c.if1.true)
+returns c = simp (sym c.is_word.ensures ∙ c.if-is_word.true)
 
-slice-aggregate-is-word-2 : tie.Need-slice-aggregate-is-word-2
-slice-aggregate-is-word-2 c = search rules
-
-is-word-requires-2 : tie.Need-is-word-requires-2
+is-word-requires-2 : tie.Need-is_word-requires-2
 is-word-requires-2 c κs = search rules
 
-returns_2 : tie.Need-returns-2
+returns_2 : tie.Need-returns
 unfolding letter_word
-returns_2 c = simp (sym c.before.before.before.is_IsWord.ensures ∙ c.before.before.if1.false) c.is-word2.ensures
+returns_2 c = simp (sym c.is_word.ensures ∙ c.if-is_word.false) c.is_word-2.ensures
 
 pub is_letter_spec : {M : Type 1} → statement M
-is_letter_spec =
-    tie.close
-    (tie.spec
-    slice-aggregate-is-word
-    is-word-requires
-    returns
-    slice-aggregate-is-word-2
-    is-word-requires-2
-    returns_2)
+is_letter_spec = tie.close (tie.spec is-word-requires returns is-word-requires-2 returns_2)

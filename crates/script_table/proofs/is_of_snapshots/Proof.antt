@@ -7,39 +7,30 @@ use borrow.Author.Rules.{rules}
 use Rattle.script_table.proofs.is_of_snapshots.Statement.{statement}
 use Rattle.script_table.proofs.is_of_snapshots.Tie as tie
 
-is-held-requires : tie.Need-is-held-requires
+is-held-requires : tie.Need-is_held-requires
 is-held-requires c κs = search rules
 
-returns : tie.Need-returns
+returns : tie.Need-returns-then-kind-eq66
 unfolding fits_snapshots
-returns c = simp (eq-eqb _ _ c.before.if1.true) c.is_held_lem.ensures
+returns c = simp (eq-eqb _ _ c.if-kind-eq66.true) c.is_held.ensures
 
-is-letter-requires : tie.Need-is-letter-requires
+is-letter-requires : tie.Need-is_letter-requires
 is-letter-requires c κs = search rules
 
-returns_2 : tie.Need-returns-2
+returns_2 : tie.Need-returns-then-kind-eq65
 unfolding fits_snapshots
-returns_2 c = simp (ne_eqb _ _ c.before.before.if1.false, eq-eqb _ _ c.before.if2.true) c.is-letter.ensures
+returns_2 c = simp (ne_eqb _ _ c.if-kind-eq66.false, eq-eqb _ _ c.if-kind-eq65.true) c.is_letter.ensures
 
-is-name-requires : tie.Need-is-name-requires
+is-name-requires : tie.Need-is_name-requires
 is-name-requires c κs = search rules
 
-returns_3 : tie.Need-returns-3
+returns_3 : tie.Need-returns-then-kind-eq71
 unfolding fits_snapshots
-returns_3 c = simp (ne_eqb _ _ c.before.before.before.if1.false, ne_eqb _ _ c.before.before.if2.false, eq-eqb _ _ c.before.if3.true, word_length) c.is_name.ensures
+returns_3 c = simp (ne_eqb _ _ c.if-kind-eq66.false, ne_eqb _ _ c.if-kind-eq65.false, eq-eqb _ _ c.if-kind-eq71.true, word_length) c.is_name.ensures
 
-returns-4 : tie.Need-returns-4
+returns-4 : tie.Need-returns
 unfolding fits_snapshots
-returns-4 c = simp (ne_eqb _ _ c.before.before.if1.false, ne_eqb _ _ c.before.if2.false, ne_eqb _ _ c.if3.false)
+returns-4 c = simp (ne_eqb _ _ c.if-kind-eq66.false, ne_eqb _ _ c.if-kind-eq65.false, ne_eqb _ _ c.if-kind-eq71.false)
 
 pub is_of_snapshots_spec : {M : Type 1} → statement M
-is_of_snapshots_spec =
-    tie.close
-    (tie.spec
-    is-held-requires
-    returns
-    is-letter-requires
-    returns_2
-    is-name-requires
-    returns_3
-    returns-4)
+is_of_snapshots_spec = tie.close (tie.spec is-held-requires returns is-letter-requires returns_2 is-name-requires returns_3 returns-4)

@@ -7,39 +7,29 @@ use borrow.Author.Rules.{rules}
 use Rattle.shell_reply.proofs.put_column.Statement.{statement}
 use Rattle.shell_reply.proofs.put_column.Tie as tie
 
-put-byte-requires : tie.Need-put-byte-requires
+put-byte-requires : tie.Need-put_byte-requires
 put-byte-requires c κs = search rules
 
-same_length : tie.Need-same-length
+same_length : tie.Need-shape_of-out-then-column-eq0
 same_length c = search rules
 
-returns : tie.Need-returns
-returns c = rw (numbers_none c.before.before.before.before.before.before.before.args.column.now c.before.before.before.before.if1.true) c.before.before.put_byte.ensures
+returns : tie.Need-returns-then-column-eq0
+returns c = rw (numbers_none c.args.column.now c.if-column-eq0.true) c.put_byte.ensures
 
-shared-slice-read-put-number : tie.Need-shared-slice-read-put-number
+shared-slice-read-put-number : tie.Need-bounds-column-0
 shared-slice-read-put-number c = search rules
 
-put-number-requires : tie.Need-put-number-requires
+put-number-requires : tie.Need-put_number-at-requires
 put-number-requires c κs = search rules
 
-put-rest-requires : tie.Need-put-rest-requires
+put-rest-requires : tie.Need-put_rest-requires
 put-rest-requires c κs = search rules
 
-same_length_2 : tie.Need-same-length-2
+same_length_2 : tie.Need-shape_of-out
 same_length_2 c = search rules
 
-returns_2 : tie.Need-returns-2
-returns_2 c = first_laid c.before.before.before.before.before.before.before.before.before.before.before.before.args.column.now _ (omega arith) refl c.before.before.before.before.before.before.put-number.ensures c.before.before.put_rest.ensures
+returns_2 : tie.Need-returns
+returns_2 c = first_laid c.args.column.now _ (omega arith) refl c.put_number-at.ensures c.put_rest.ensures
 
 pub put_column_spec : {M : Type 1} → statement M
-put_column_spec =
-    tie.close
-    (tie.spec
-    put-byte-requires
-    same_length
-    returns
-    shared-slice-read-put-number
-    put-number-requires
-    put-rest-requires
-    same_length_2
-    returns_2)
+put_column_spec = tie.close (tie.spec put-byte-requires same_length returns shared-slice-read-put-number put-number-requires put-rest-requires same_length_2 returns_2)

@@ -14,38 +14,37 @@ use Rattle.store.proofs.Shape.{shape}
 use Rattle.store_numbers.proofs.new_file_number.Statement.{statement}
 use Rattle.store_numbers.proofs.new_file_number.Tie as tie
 
-is-well-formed-requires : tie.Need-is-well-formed-requires
+is-well-formed-requires : tie.Need-is_well_formed-requires
 is-well-formed-requires c κs = search rules
 
-returns : tie.Need-returns
+returns : tie.Need-returns-then-not-is_well_formed
 unfolding handed outcome_of
 returns c =
-    let w = c.before in
-    new_ill w.before.args.s (sym w.is-well-formed.ensures ∙ not-true w.is-well-formed.result c.if1.true)
+    let w = c in
+    new_ill w.args.s (sym w.is_well_formed.ensures ∙ c.if-not-is_well_formed.true)
 
-returns_2 : tie.Need-returns-2
+returns_2 : tie.Need-returns-then-next-ge-LARGEST
 unfolding handed outcome_of counter_beyond counters_of
 returns_2 c =
-    let e = c.before.before.before.before in
-    let w = e.before in
-    let s = w.before.args.s in
-    let h = sym w.is-well-formed.ensures ∙ not-false w.is-well-formed.result e.if1.false in
-    new_beyond s h (le-leb max_counter s.counters.next.0 c.if2.true)
+    let e = c in
+    let w = e in
+    let s = w.args.s in
+    let h = sym w.is_well_formed.ensures ∙ e.if-not-is_well_formed.false in
+    new_beyond s h (le-leb max_counter s.counters.next.0 c.if-next-ge-LARGEST.true)
 
-add-t13 : tie.Need-overflow-add-t13
+add-t13 : tie.Need-overflow_add-after
 add-t13 c = search rules
 
-returns_3 : tie.Need-returns-3
+returns_3 : tie.Need-returns
 unfolding counter_beyond counted counters_of
 returns_3 c =
-    let f = c.before in
-    let e = f.before.before.before.before in
-    let w = e.before in
-    let s = w.before.args.s in
-    let h = sym w.is-well-formed.ensures ∙ not-false w.is-well-formed.result e.if1.false in
+    let f = c in
+    let e = f in
+    let w = e in
+    let s = w.args.s in
+    let h = sym w.is_well_formed.ensures ∙ e.if-not-is_well_formed.false in
     let n = s.counters.next.0 in
-    new_done s (shape s _ w.before.well-formed.0) (next_is n s.counters (n + 1)) h (lt-leb max_counter n f.if2.false) (rw add-one)
+    new_done s (shape s _ w.well_formed.0) (next_is n s.counters (n + 1)) h (lt-leb max_counter n f.if-next-ge-LARGEST.false) (rw add-one)
 
 pub new_file_number_spec : {M : Type 1} → statement M
-new_file_number_spec =
-    tie.close (tie.spec is-well-formed-requires returns returns_2 add-t13 returns_3)
+new_file_number_spec = tie.close (tie.spec is-well-formed-requires returns returns_2 add-t13 returns_3)

@@ -15,10 +15,10 @@ settled-requires c κs = search rules
 returns : tie.Need-returns
 unfolding counter_beyond counted counters_of
 returns c =
-    let s = c.before.before in
+    let s = c in
     let a = s.args in
     let after : Counters = record { next = a.s.counters.next; manifest = a.s.counters.manifest; last = a.n; log = a.s.counters.log; previous = a.s.counters.previous } in
-    c.settled.ensures ∙ setting_is a.s (last a.n.0) a.n.0 after (shape a.s _ s.well-formed.0) refl refl
+    c.settled.ensures ∙ setting_is a.s (last a.n.0) a.n.0 after (shape a.s _ s.well_formed.0) refl refl
 
 pub set_last_sequence_spec : {M : Type 1} → statement M
 set_last_sequence_spec = tie.close (tie.spec settled-requires returns)

@@ -13,13 +13,13 @@ number nan e = subst T (sym e) tt
 number (inf t) e = tt
 number (fin t m d) e = tt
 
-float-to-bits-result : tie.Need-float-to-bits-result
-float-to-bits-result c = number c.before.args.x c.if1.true
+float-to-bits-result : tie.Need-float_to_bits-result
+float-to-bits-result c = number c.args.x c.if-x.true
 
-returns : tie.Need-returns
+returns : tie.Need-returns-then-x
 returns c = search rules
 
-returns_2 : tie.Need-returns-2
+returns_2 : tie.Need-returns-else-x
 returns_2 c = search rules
 
 pub bits_of_spec : {M : Type 1} → statement M
