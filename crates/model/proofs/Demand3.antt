@@ -1,5 +1,5 @@
 -- Demand 3: two histories of a fresh store write the same bytes exactly when they leave the same files, pointers and counters. Assumes nothing.
-use Rattle.std.specs.Prelude.{ℕ, zero, suc, ◌-◌, ◌^◌, ◌<◌, ◌≤◌, ◌≡◌, refl, ◌↔◌, Bool, true, false, ltb, get_or, replicate}
+use Rattle.std.specs.Prelude.{ℕ, zero, suc, ◌<◌, ◌≤◌, ◌≡◌, refl, ◌↔◌, Bool, true, false, ltb, get_or, replicate}
 use Rattle.std.proofs.Common.{ap, sym, ◌∙◌, subst, ltb-true, ltb-false, ext_get_or, arith}
 use mathlib.Core.List.Memᴰ.{head as here}
 use mathlib.Core.List.Memᴰ.{not-nil}
@@ -8,7 +8,6 @@ use mathlib.Core.List.{List, [], ◌∷◌, Memᴰ as In}
 use Rattle.std.proofs.Math.Option.{Option, none}
 use Rattle.std.proofs.Math.ListN.{get_or-eq_default}
 use Rattle.std.proofs.lemmas.List.{length-replicate}
-use Rattle.lemmas.specs.Order.{same}
 use Rattle.lemmas.specs.Lists.{sort, chain, join, distinct}
 use Rattle.lemmas.specs.ListLaws.{both, sort_in, get_or_same, in_replicate, join_empties}
 use Rattle.model.specs.Key.{Key}

@@ -4,7 +4,7 @@ use mathlib.Core.List.{List, [], ◌∷◌, Memᴰ as In}
 use Rattle.std.proofs.Math.Option.{Option, none, some}
 use Rattle.std.proofs.lemmas.Bool.{not-true, not-false}
 use Rattle.std.proofs.Common.{arith}
-use Rattle.lemmas.specs.Order.{StrictWeak, clash, asym, less, flip_order, on_order}
+use Rattle.lemmas.specs.Order.{StrictWeak, clash, asym, flip_order, on_order}
 use Rattle.lemmas.specs.Lists.{find}
 use Rattle.lemmas.specs.ListLaws.{and_left, and_right, both, find_some, find_none, tally, tally_le, tally_less, tally_none, all_in, least_of, is_least, find_least, neither, neither_left, neither_right}
 use Rattle.model.specs.Key.{Key, user, user_before, before}

@@ -15,7 +15,7 @@ use Rattle.std.specs.Float.Ieee.{of_int, div, round, up, down, low}
 use Rattle.std.specs.Float.Ieee.Exact.{HasValue, round_exact}
 use Rattle.std.specs.Float.Ieee.Scale.{round_same}
 use Rattle.std.specs.Float.Ieee.Fits.{down_pos}
-use Rattle.lemmas.specs.Order.{clash, same}
+use Rattle.lemmas.specs.Order.{clash}
 use Rattle.lemmas.specs.Lists.{all, find, sum, up_from}
 use Rattle.lemmas.specs.ListLaws.{all_in, join_in, join_length, up_from_in, find_up_from}
 use Rattle.model.specs.File.{Profile, File, State, level, total, max_size, level_count}

@@ -1,4 +1,6 @@
 // When to compact: the level with the greatest score, its score, and whether work is due.
+#![tactic(auto)]
+
 ghost use Rattle.std.specs.Prelude.{◌≡◌, ◌<◌};
 ghost use Rattle.model.specs.File.{full, last_level};
 ghost use Rattle.model.proofs.ScoreLaws.{best_from, Lossless};

@@ -1,16 +1,17 @@
 // The shell's commands on files: the store's snapshot saved to one, and a store read from one.
+#![tactic(auto)]
+
 ghost use Rattle.std.specs.Prelude.{◌≡◌, ◌≤◌, length};
 ghost use Rattle.shell_edit.specs.Changes.{read_of, loaded_by};
 ghost use Rattle.shell_file.specs.Opening.{Left};
 
 use snapshot_parts::Snapshot;
 use snapshot_write::Written;
-use std::fs;
 use std::fs::{File, OpenFile, OpenOptions};
 use std::io::{ErrorKind, Read, Write};
 use std::os::unix::fs::OpenOptionsExt;
 use std::rt::Files;
-use std::str;
+use std::{fs, str};
 use store::Store;
 
 // A store, and where the answer of the command ends that left it.

@@ -1,4 +1,6 @@
 // The text of an answer that a record keeps, from its bytes: what the shell answers to such a call, with `_` for each blank.
+#![tactic(auto)]
+
 ghost use Prim.Native.Nat.{◌≤◌};
 ghost use lib.ListN.{length};
 

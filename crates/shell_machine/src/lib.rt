@@ -1,4 +1,6 @@
 // What a script works on, and the commands that change it. Each lays its answer in lent bytes, and hands back what it leaves.
+#![tactic(auto)]
+
 ghost use Rattle.std.specs.Prelude.{◌≡◌, false, ◌≤◌, length};
 ghost use Rattle.shell_edit.specs.Changes.{changed_by};
 ghost use Rattle.shell_file.specs.Opening.{Left};
@@ -197,7 +199,14 @@ fn settle(out: &mut [u8], m: Machine, line: &[u8], which: u8) -> Machine
 }
 
 // Answers a command that changes the machine.
-pub fn turn<R: Files>(rt: &R, out: &mut [u8], m: Machine, line: &[u8], group: u8, which: u8) -> Machine
+pub fn turn<R: Files>(
+    rt: &R,
+    out: &mut [u8],
+    m: Machine,
+    line: &[u8],
+    group: u8,
+    which: u8,
+) -> Machine
     ensures { result.at ≤ length out.new }
 {
     if group == b'm' {

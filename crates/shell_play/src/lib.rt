@@ -1,4 +1,6 @@
 // The record of a file played on the shell's store. It is taken in pieces that end where a call ends, so it may be longer than any room.
+#![tactic(auto)]
+
 ghost use Prim.Native.Nat.{◌≤◌};
 ghost use mathlib.Core.Path.{◌≡◌};
 ghost use lib.ListN.{length};

@@ -1,4 +1,6 @@
 // Bytes printed as hex digits on standard output, piece by piece: they may be longer than the room for an answer line.
+#![tactic(auto)]
+
 use libc::STDOUT_FILENO;
 
 // The bytes of a piece.

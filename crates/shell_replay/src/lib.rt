@@ -1,4 +1,6 @@
 // The shell's commands on records: how many calls the running record holds, its bytes, and a part of it, or other bytes, replayed from a snapshot.
+#![tactic(auto)]
+
 ghost use Prim.Native.Nat.{◌≤◌};
 ghost use mathlib.Core.Path.{◌≡◌};
 ghost use lib.ListN.{length};

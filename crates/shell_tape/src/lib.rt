@@ -1,5 +1,7 @@
 // The running record of the shell: the calls since the last command that replaced the store or its settings, each with its answer. It is kept in lent bytes as far as there is
 // room, and in a file, if one is named.
+#![tactic(auto)]
+
 ghost use mathlib.Core.Path.{◌≡◌};
 ghost use mathlib.Core.Bool.{true};
 ghost use Prim.Native.Nat.{◌≤◌};
