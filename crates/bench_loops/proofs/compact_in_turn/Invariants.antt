@@ -11,7 +11,7 @@ invariant-loop-k l =
     record {
       same : l.done + many_done (λ t. model.manual_pick full t l.maximum l.level (key_of l.start) (key_of l.stop)) (l.times - l.k) l.s ≡ many_done (λ t. model.manual_pick full t l.maximum l.level (key_of l.start) (key_of l.stop)) l.times l.fn.s;
       few : l.done ≤ l.k;
-      within : l.k ≤ l.times
+      within : l.k ≤ l.times;
     }
 
 abbrev pub decreases-loop-k : goal.decreases-loop-k
