@@ -31,6 +31,7 @@ neither_of false false e f g = clash e refl
 -- without equal smallest keys, files that are not told apart by them are one
 pub ties_one : (fs : List File) → no_ties fs ≡ true → (f g : File) → In f fs → In g fs → by_smallest f g ≡ false → by_smallest g f ≡ false → f ≡ g
 unfolding no_ties
+ties_one [] n f g x5 _ a b = elim x5 [ ]
 ties_one (x ∷ xs) n f g (here e) (here e') a b = e ∙ sym e'
 ties_one (x ∷ xs) n f g (here e) (there m) a b =
     let t = (all_in (λ g. by_smallest x g || by_smallest g x) xs).0 (and_left (all (λ g. by_smallest x g || by_smallest g x) xs) (no_ties xs) n) g m in
@@ -84,6 +85,7 @@ read_back_lem p fit s w n = decode_encode p fit s w ∙ ap (λ (t : State). some
 -- ---- what the test of a cut says
 -- a member parts a list
 in_split : {A : Type 0} (x : A) (xs : List A) → In x xs → (ys : List A) × (zs : List A) × (xs ≡ ys ++ x ∷ zs)
+in_split {A = A} x [] x'' = elim x'' [ ]
 in_split x (y ∷ ys) (here e) = ([], ys, ap (λ (z : _). z ∷ ys) (sym e))
 in_split x (y ∷ ys) (there m) = let r = in_split x ys m in (y ∷ r.0, r.1, ap (λ (l : List _). y ∷ l) r.2)
 

@@ -1,1 +1,1 @@
-mod Borrowed
+pub mod Leaving

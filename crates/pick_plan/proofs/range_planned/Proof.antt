@@ -3,7 +3,6 @@ use mathlib.Core.Path.{◌≡◌, sym, ap, ◌∙◌}
 use mathlib.Core.Bool.{true, false, ◌&&◌}
 use native.Mathlib.Omega.{arith}
 use borrow.Author.Rules.{rules}
-use borrow.Author.Tests.{not-true, not-false}
 use Rattle.lemmas.specs.ListLaws.{both}
 use Rattle.model.specs.Answer.{Answer}
 use Rattle.model.specs.File.{full}
@@ -34,176 +33,154 @@ answer s c =
     let a = c.args in
     on_store s (λ t. model.manual_pick full t a.maximum a.level (key_of a.start) (key_of a.stop))
 
-refused-plan-requires : tie.Need-refused-plan-requires
+refused-plan-requires : tie.Need-refused_plan-requires
 refused-plan-requires c κs = search rules
 
-returns : tie.Need-returns
+returns : tie.Need-returns-then-not-well
 returns c s h =
-    let t = c.before in
-    let b = t.before in
+    let t = c in
+    let b = t.before.before in
     let a = b.args in
-    plans_none s (answer s b) 14 c.refused_plan.result (range_ill s a.maximum a.level (key_of a.start) (key_of a.stop) (h ∙ not-true a.well t.if1.true)) c.refused_plan.ensures
+    plans_none s (answer s b) 14 c.refused_plan.result (range_ill s a.maximum a.level (key_of a.start) (key_of a.stop) (h ∙ t.if-not-well.true)) c.refused_plan.ensures
 
 -- past the first test the store is well-formed
-well : (c : tie.Else1) (s : Store) → well_store s ≡ c.before.args.well → well_store s ≡ true
-well c s h = h ∙ not-false c.before.args.well c.if1.false
+well : (c : tie.Else-not-well) (s : Store) → well_store s ≡ c.args.well → well_store s ≡ true
+well c s h = h ∙ c.if-not-well.false
 
-refused-plan-requires-2 : tie.Need-refused-plan-requires-2
+refused-plan-requires-2 : tie.Need-refused_plan-requires-then-level-ge-COUNT
 refused-plan-requires-2 c κs = search rules
 
-returns_2 : tie.Need-returns-2
+returns_2 : tie.Need-returns-then-level-ge-COUNT
 returns_2 c s h =
-    let t = c.before in
-    let e = t.before in
+    let t = c in
+    let e = t.before.before in
     let b = e.before in
     let a = b.args in
-    plans_none s (answer s b) 1 c.refused-plan2.result (range_beyond s a.maximum a.level (key_of a.start) (key_of a.stop) (well e s h) t.if2.true) c.refused-plan2.ensures
+    plans_none s (answer s b) 1 c.refused_plan-then-level-ge-COUNT.result (range_beyond s a.maximum a.level (key_of a.start) (key_of a.stop) (well e s h) t.if-level-ge-COUNT.true) c.refused_plan-then-level-ge-COUNT.ensures
 
-is-good-requires : tie.Need-is-good-requires
+is-good-requires : tie.Need-is_good-requires
 is-good-requires c κs = search rules
 
-refused-plan-requires-3 : tie.Need-refused-plan-requires-3
+refused-plan-requires-3 : tie.Need-refused_plan-requires-then-not-is_good
 refused-plan-requires-3 c κs = search rules
 
-returns_3 : tie.Need-returns-3
+returns_3 : tie.Need-returns-then-not-is_good
 returns_3 c s h =
-    let t = c.before in
-    let g = t.before in
-    let l = g.before in
-    let e = l.before in
+    let t = c in
+    let g = t in
+    let l = g in
+    let e = l.before.before.before.before in
     let b = e.before in
     let a = b.args in
-    let wrong = wrong_left (good_key full.longest (key_of a.start)) (good_key full.longest (key_of a.stop)) (sym g.is-good.ensures ∙ not-true g.is-good.result t.if3.true) in
-    plans_none s (answer s b) 2 c.refused-plan3.result (range_key s a.maximum a.level (key_of a.start) (key_of a.stop) (well e s h) l.if2.false wrong) c.refused-plan3.ensures
+    let wrong = wrong_left (good_key full.longest (key_of a.start)) (good_key full.longest (key_of a.stop)) (sym g.is_good.ensures ∙ t.if-not-is_good.true) in
+    plans_none s (answer s b) 2 c.refused_plan-then-not-is_good.result (range_key s a.maximum a.level (key_of a.start) (key_of a.stop) (well e s h) l.if-level-ge-COUNT.false wrong) c.refused_plan-then-not-is_good.ensures
 
-is-good-requires-2 : tie.Need-is-good-requires-2
+is-good-requires-2 : tie.Need-is_good-requires-2
 is-good-requires-2 c κs = search rules
 
-refused-plan-requires-4 : tie.Need-refused-plan-requires-4
+refused-plan-requires-4 : tie.Need-refused_plan-requires-then-not-is_good-2
 refused-plan-requires-4 c κs = search rules
 
 -- past the third the start is a key
-start_good : (c : tie.Else3) → good_key full.longest (key_of c.before.before.before.before.args.start) ≡ true
-start_good c = sym c.before.is-good.ensures ∙ not-false c.before.is-good.result c.if3.false
+start_good : (c : tie.Else-not-is_good) → good_key full.longest (key_of c.args.start) ≡ true
+start_good c = sym c.is_good.ensures ∙ c.if-not-is_good.false
 
-returns-4 : tie.Need-returns-4
+returns-4 : tie.Need-returns-then-not-is_good-2
 returns-4 c s h =
-    let t = c.before in
-    let g = t.before in
-    let k = g.before in
-    let l = k.before.before in
-    let e = l.before in
+    let t = c in
+    let g = t in
+    let k = g.before.before.before in
+    let l = k in
+    let e = l.before.before.before in
     let b = e.before in
     let a = b.args in
-    let wrong = wrong_right (good_key full.longest (key_of a.start)) (good_key full.longest (key_of a.stop)) (start_good k) (sym g.is-good2.ensures ∙ not-true g.is-good2.result t.if4.true) in
-    plans_none s (answer s b) 2 c.refused-plan4.result (range_key s a.maximum a.level (key_of a.start) (key_of a.stop) (well e s h) l.if2.false wrong) c.refused-plan4.ensures
+    let wrong = wrong_right (good_key full.longest (key_of a.start)) (good_key full.longest (key_of a.stop)) (start_good k) (sym g.is_good-2.ensures ∙ t.if-not-is_good-2.true) in
+    plans_none s (answer s b) 2 c.refused_plan-then-not-is_good-2.result (range_key s a.maximum a.level (key_of a.start) (key_of a.stop) (well e s h) l.if-level-ge-COUNT.false wrong) c.refused_plan-then-not-is_good-2.ensures
 
-is-bad-maximum-requires : tie.Need-is-bad-maximum-requires
+is-bad-maximum-requires : tie.Need-is_bad_maximum-requires
 is-bad-maximum-requires c κs = search rules
 
-refused-plan-requires-5 : tie.Need-refused-plan-requires-5
+refused-plan-requires-5 : tie.Need-refused_plan-requires-then-is_bad_maximum
 refused-plan-requires-5 c κs = search rules
 
 -- past the fourth both are keys
-keys_good : (c : tie.Else4) → let a = c.before.before.before.before.before.before.args in
+keys_good : (c : tie.Else-not-is_good-2) → let a = c.args in
     (good_key full.longest (key_of a.start) && good_key full.longest (key_of a.stop)) ≡ true
 keys_good c =
     let g = c.before in
     let k = g.before in
-    let a = k.before.before.before.before.args in
-    both (good_key full.longest (key_of a.start)) (good_key full.longest (key_of a.stop)) (start_good k) (sym g.is-good2.ensures ∙ not-false g.is-good2.result c.if4.false)
+    let a = k.args in
+    both (good_key full.longest (key_of a.start)) (good_key full.longest (key_of a.stop)) (start_good k) (sym g.is_good-2.ensures ∙ c.if-not-is_good-2.false)
 
-returns-5 : tie.Need-returns-5
+returns-5 : tie.Need-returns-then-is_bad_maximum
 returns-5 c s h =
-    let t = c.before in
-    let m = t.before in
-    let g = m.before in
-    let l = g.before.before.before.before in
-    let e = l.before in
+    let t = c in
+    let m = t in
+    let g = m.before.before.before in
+    let l = g in
+    let e = l.before.before.before.before.before in
     let b = e.before in
     let a = b.args in
-    plans_none s (answer s b) 9 c.refused-plan5.result
-    (range_bad s a.maximum a.level (key_of a.start) (key_of a.stop) (well e s h) l.if2.false (keys_good g) (sym m.is-bad-maximum.ensures ∙ t.if5.true)) c.refused-plan5.ensures
+    plans_none s (answer s b) 9 c.refused_plan-then-is_bad_maximum.result
+    (range_bad s a.maximum a.level (key_of a.start) (key_of a.stop) (well e s h) l.if-level-ge-COUNT.false (keys_good g) (sym m.is_bad_maximum.ensures ∙ t.if-is_bad_maximum.true)) c.refused_plan-then-is_bad_maximum.ensures
 
-add-if6 : tie.Need-overflow-add-if6
+add-if6 : tie.Need-overflow_add-level
 add-if6 c = search rules
 
-refused-plan-requires-6 : tie.Need-refused-plan-requires-6
+refused-plan-requires-6 : tie.Need-refused_plan-requires-then-level-ge-COUNT-2
 refused-plan-requires-6 c κs = search rules
 
 -- past the fifth the maximum file size is in its range
-good : (c : tie.Else5) → model.bad_maximum c.before.before.before.before.before.before.before.before.args.maximum ≡ false
-good c = sym c.before.is-bad-maximum.ensures ∙ c.if5.false
+good : (c : tie.Else-is_bad_maximum) → model.bad_maximum c.args.maximum ≡ false
+good c = sym c.is_bad_maximum.ensures ∙ c.if-is_bad_maximum.false
 
-returns-6 : tie.Need-returns-6
+returns-6 : tie.Need-returns-then-level-ge-COUNT-2
 returns-6 c s h =
-    let t = c.before in
-    let m = t.before in
+    let t = c in
+    let m = t.before.before in
     let g = m.before.before in
-    let l = g.before.before.before.before in
-    let e = l.before in
+    let l = g in
+    let e = l.before.before.before.before.before in
     let b = e.before in
     let a = b.args in
-    plans_none s (answer s b) 11 c.refused-plan6.result
-    (range_last s a.maximum a.level (key_of a.start) (key_of a.stop) (well e s h) l.if2.false (keys_good g) (good m) t.if6.true) c.refused-plan6.ensures
+    plans_none s (answer s b) 11 c.refused_plan-then-level-ge-COUNT-2.result
+    (range_last s a.maximum a.level (key_of a.start) (key_of a.stop) (well e s h) l.if-level-ge-COUNT.false (keys_good g) (good m) t.if-level-ge-COUNT-2.true) c.refused_plan-then-level-ge-COUNT-2.ensures
 
-between-requires : tie.Need-between-requires
+between-requires : tie.Need-between-span-requires
 between-requires c κs = search rules
 
-limit-of-requires : tie.Need-limit-of-requires
+limit-of-requires : tie.Need-limit_of-requires
 limit-of-requires c κs = search rules
 
-asking-requires : tie.Need-asking-requires
+asking-requires : tie.Need-asking-asked-requires
 asking-requires c κs = search rules
 
-returns-7 : tie.Need-returns-7
+returns-7 : tie.Need-returns
 unfolding begun
 returns-7 c s h =
-    let k = c.before in
-    let r = k.before in
-    let n = r.before in
-    let m = n.before in
+    let k = c in
+    let r = k in
+    let n = r in
+    let m = n.before.before.before.before in
     let g = m.before.before in
-    let l = g.before.before.before.before in
-    let e = l.before in
+    let l = g in
+    let e = l.before.before.before.before.before in
     let b = e.before in
     let a = b.args in
-    let asked = c.asking.ensures ∙ ap (λ (x : Span). begun a.level a.maximum x k.limit-of.result) r.between.ensures
-    ∙ ap (begun a.level a.maximum (span_record (between (key_of a.start) (key_of a.stop)))) k.limit-of.ensures in
-    let level : c.asking.result.level ≡ a.level = ap (λ (x : Choice). x.level) c.asking.ensures in
-    let ready : Ready s c.asking.result 0 = rw c.asking.ensures
+    let asked = c.asking-asked.ensures ∙ ap (λ (x : Span). begun a.level a.maximum x k.limit_of.result) r.between-span.ensures
+    ∙ ap (begun a.level a.maximum (span_record (between (key_of a.start) (key_of a.stop)))) k.limit_of.ensures in
+    let level : c.asking-asked.result.level ≡ a.level = ap (λ (x : Choice). x.level) c.asking-asked.ensures in
+    let ready : Ready s c.asking-asked.result 0 = rw c.asking-asked.ensures
     record {
       well = well e s h;
-      level = l.if2.false;
+      level = l.if-level-ge-COUNT.false;
       maximum = maximum_most a.maximum (good m);
       order = omega arith;
-      stands = invariant_begun s a.level a.maximum k.limit-of.result r.between.result;
+      stands = invariant_begun s a.level a.maximum k.limit_of.result r.between-span.result;
     } in
-    plans_done s (answer s b) Manual c.asking.result 0
-    (range_picks s a.maximum a.level (key_of a.start) (key_of a.stop) (well e s h) l.if2.false (keys_good g) (good m) (omega (arith, n.if6.false)) c.asking.result asked (span_between a.start a.stop))
-    ready (omega (arith, n.if6.false))
+    plans_done s (answer s b) Manual c.asking-asked.result 0
+    (range_picks s a.maximum a.level (key_of a.start) (key_of a.stop) (well e s h) l.if-level-ge-COUNT.false (keys_good g) (good m) (omega (arith, n.if-level-ge-COUNT-2.false)) c.asking-asked.result asked (span_between a.start a.stop))
+    ready (omega (arith, n.if-level-ge-COUNT-2.false))
 
 pub range_planned_spec : {M : Type 1} → statement M
-range_planned_spec =
-    tie.close
-    (tie.spec
-    refused-plan-requires
-    returns
-    refused-plan-requires-2
-    returns_2
-    is-good-requires
-    refused-plan-requires-3
-    returns_3
-    is-good-requires-2
-    refused-plan-requires-4
-    returns-4
-    is-bad-maximum-requires
-    refused-plan-requires-5
-    returns-5
-    add-if6
-    refused-plan-requires-6
-    returns-6
-    between-requires
-    limit-of-requires
-    asking-requires
-    returns-7)
+range_planned_spec = tie.close (tie.spec refused-plan-requires returns refused-plan-requires-2 returns_2 is-good-requires refused-plan-requires-3 returns_3 is-good-requires-2 refused-plan-requires-4 returns-4 is-bad-maximum-requires refused-plan-requires-5 returns-5 add-if6 refused-plan-requires-6 returns-6 between-requires limit-of-requires asking-requires returns-7)

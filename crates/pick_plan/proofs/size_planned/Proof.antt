@@ -86,79 +86,66 @@ module _ (s : Store) (q : StoreShape s) (h : well_store s ≡ true) (c : Scored)
         }
         (omega arith)
 
-is-bad-maximum-requires : tie.Need-is-bad-maximum-requires
+is-bad-maximum-requires : tie.Need-is_bad_maximum-requires
 is-bad-maximum-requires c κs = search rules
 
-refused-plan-requires : tie.Need-refused-plan-requires
+refused-plan-requires : tie.Need-refused_plan-requires
 refused-plan-requires c κs = search rules
 
-returns : tie.Need-returns
+returns : tie.Need-returns-then-is_bad_maximum
 returns c s q h e f =
-    let t = c.before in
-    let b = t.before in
-    let m = b.before.args.maximum in
-    plans_none s (answer s m) 9 c.refused_plan.result (size_bad s m h (sym b.is-bad-maximum.ensures ∙ t.if1.true)) c.refused_plan.ensures
+    let t = c in
+    let b = t in
+    let m = b.args.maximum in
+    plans_none s (answer s m) 9 c.refused_plan.result (size_bad s m h (sym b.is_bad_maximum.ensures ∙ t.if-is_bad_maximum.true)) c.refused_plan.ensures
 
 -- past the test the maximum file size is in its range
-good : (c : tie.Else1) → model.bad_maximum c.before.before.args.maximum ≡ false
-good c = sym c.before.is-bad-maximum.ensures ∙ c.if1.false
+good : (c : tie.Else-is_bad_maximum) → model.bad_maximum c.args.maximum ≡ false
+good c = sym c.is_bad_maximum.ensures ∙ c.if-is_bad_maximum.false
 
-enum-known-found : tie.Need-enum-known-found
+enum-known-found : tie.Need-enum_known-found
 enum-known-found c = search rules
 
-enum_told : tie.Need-enum-told
+enum_told : tie.Need-enum_told-1
 enum_told c = search rules
 
-refused-plan-requires-2 : tie.Need-refused-plan-requires-2
+refused-plan-requires-2 : tie.Need-refused_plan-requires-in_default
 refused-plan-requires-2 c κs = search rules
 
-returns_2 : tie.Need-returns-2
+returns_2 : tie.Need-returns-in_default
 returns_2 c s q h e f =
-    let k = c.before in
+    let k = c in
     let l = k.before.before in
-    let a = l.before.before.args in
+    let a = l.args in
     let x = a.scored in
-    plans_none s (answer s a.maximum) 10 c.refused-plan2.result
-    (size_idle s a.maximum h (good l) x.level (level_is s q h x e) (idle s q h x e a.started f k.enum_told.given.1)) c.refused-plan2.ensures
+    plans_none s (answer s a.maximum) 10 c.refused_plan-in_default.result
+    (size_idle s a.maximum h (good l) x.level (level_is s q h x e) (idle s q h x e a.started f k.in_default.is)) c.refused_plan-in_default.ensures
 
-range-of-requires : tie.Need-range-of-requires
+range-of-requires : tie.Need-range_of-span-requires
 range-of-requires c κs = search rules
 
-asking-requires : tie.Need-asking-requires
+asking-requires : tie.Need-asking-asked-requires
 asking-requires c κs = search rules
 
-search-of-requires : tie.Need-search-of-requires
+search-of-requires : tie.Need-search_of-requires
 search-of-requires c κs = search rules
 
-returns_3 : tie.Need-returns-3
+returns_3 : tie.Need-returns
 unfolding filled_with one_asked
 returns_3 c s q h e f =
-    let k = c.before in
-    let r = k.before in
-    let g = r.before.before.before in
-    let l = g.before.before in
-    let a = l.before.before.args in
+    let k = c in
+    let r = k in
+    let g = r in
+    let l = g.before.before.before.before.before in
+    let a = l.args in
     let x = a.scored in
     let z = a.started in
-    let i = g.found.given.0.0 in
+    let i = g.in-At.i in
     let first : FoundRun = record { from = i; count = z.first.count; ends = z.first.ends; bytes = z.first.bytes } in
-    let same = found_at s x.level h q.files z (starts s q h x e z f) i g.found.given.1 in
-    let asked = ap (λ (y : Choice). filled_with y 0 first) (k.asking.ensures ∙ ap (λ (y : Span). begun x.level a.maximum y max_word) r.range-of.ensures)
+    let same = found_at s x.level h q.files z (starts s q h x e z f) i g.in-At.is in
+    let asked = ap (λ (y : Choice). filled_with y 0 first) (k.asking-asked.ensures ∙ ap (λ (y : Span). begun x.level a.maximum y max_word) r.range_of-span.ensures)
     ∙ ap (one_asked x.level a.maximum) same in
-    size_plans s q h x e z f i g.found.given.1 a.maximum (good l) (filled_with k.asking.result 0 first) asked c.search_of_lem.result c.search_of_lem.ensures
+    size_plans s q h x e z f i g.in-At.is a.maximum (good l) (filled_with k.asking-asked.result 0 first) asked c.search_of.result c.search_of.ensures
 
 pub size_planned_spec : {M : Type 1} → statement M
-size_planned_spec =
-    tie.close
-    (tie.spec
-    is-bad-maximum-requires
-    refused-plan-requires
-    returns
-    enum-known-found
-    enum_told
-    refused-plan-requires-2
-    returns_2
-    range-of-requires
-    asking-requires
-    search-of-requires
-    returns_3)
+size_planned_spec = tie.close (tie.spec is-bad-maximum-requires refused-plan-requires returns enum-known-found enum_told refused-plan-requires-2 returns_2 range-of-requires asking-requires search-of-requires returns_3)

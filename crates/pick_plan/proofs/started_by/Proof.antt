@@ -18,26 +18,26 @@ with_nothing a = record { start = Nothing; first = a }
 abbrev with_file : ℕ → FoundRun → Started
 with_file i a = record { start = At i; first = a }
 
-nothing-at-requires : tie.Need-nothing-at-requires
+nothing-at-requires : tie.Need-nothing_at-none-requires
 nothing-at-requires c κs = search rules
 
-returns : tie.Need-returns
+returns : tie.Need-returns-then-p
 unfolding started_by
 returns c =
-    let t = c.before in
-    let p = t.before.before.args.p in
-    rw (le-ltb p.lo p.hi t.if1.true) (ap with_nothing c.nothing_at.ensures)
+    let t = c in
+    let p = t.args.p in
+    rw (le-ltb p.lo p.hi t.if-p.true) (ap with_nothing c.nothing_at-none.ensures)
 
-one-file-requires : tie.Need-one-file-requires
+one-file-requires : tie.Need-one_file-one-requires
 one-file-requires c κs = search rules
 
-returns_2 : tie.Need-returns-2
+returns_2 : tie.Need-returns
 unfolding started_by
 returns_2 c =
-    let e = c.before in
-    let a = e.before.before.args in
+    let e = c in
+    let a = e.args in
     let p = a.p in
-    rw (lt-ltb p.lo p.hi e.if1.false) (ap (with_file a.i) c.one-file.ensures)
+    rw (lt-ltb p.lo p.hi e.if-p.false) (ap (with_file a.i) c.one_file-one.ensures)
 
 pub started_by_spec : {M : Type 1} → statement M
 started_by_spec = tie.close (tie.spec nothing-at-requires returns one-file-requires returns_2)

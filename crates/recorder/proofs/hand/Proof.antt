@@ -10,25 +10,25 @@ use Rattle.recorder.specs.RecorderLaws.{roomed_short, roomed_gives}
 use Rattle.recorder.proofs.hand.Statement.{statement}
 use Rattle.recorder.proofs.hand.Tie as tie
 
-returns : tie.Need-returns
+returns : tie.Need-returns-then-out-n
 returns c =
-    let a = c.before.before.before.args in
+    let a = c.args in
     let n = length a.out.now in
-    said_refused (roomed a.laid.now n) 13 a.out.now (roomed_short a.laid.now n c.if1.true)
+    said_refused (roomed a.laid.now n) 13 a.out.now (roomed_short a.laid.now n c.if-out-n.true)
 
-put-bytes-requires : tie.Need-put-bytes-requires
+put-bytes-requires : tie.Need-put_bytes-requires
 put-bytes-requires c κs = search rules
 
-same_length : tie.Need-same-length
+same_length : tie.Need-shape_of-out
 same_length c = search rules
 
-returns_2 : tie.Need-returns-2
+returns_2 : tie.Need-returns
 returns_2 c =
-    let p = c.before.before in
-    let a = p.before.before.before.before.before.args in
+    let p = c in
+    let a = p.args in
     let bs = a.laid.now in
     let out = a.out.now in
-    said_gives (roomed bs (length out)) bs out p.put-bytes.new.0 (length bs) (roomed_gives bs (length out) (omega arith)) refl (p.put-bytes.ensures.1 ∙ put_front out bs)
+    said_gives (roomed bs (length out)) bs out p.put_bytes.new.out (length bs) (roomed_gives bs (length out) (omega arith)) refl (p.put_bytes.ensures.1 ∙ put_front out bs)
 
 pub hand_spec : {M : Type 1} → statement M
 hand_spec = tie.close (tie.spec returns put-bytes-requires same_length returns_2)

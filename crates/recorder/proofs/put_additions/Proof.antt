@@ -16,159 +16,137 @@ use Rattle.recorder.specs.RecorderLaws.{Lays, section_bytes, parts_long, turn_ro
 use Rattle.recorder.proofs.put_additions.Statement.{statement}
 use Rattle.recorder.proofs.put_additions.Tie as tie
 
-abbrev invariant-loop : tie.invariant-loop
+abbrev invariant-loop : tie.invariant-loop-i
 invariant-loop out₀ at e n kept next₀ i₀ out next i = Lays addition_form addition_of max_additions blank_addition e.addition_count e.additions out₀ next₀ out next i
 
-abbrev decreases-loop : tie.decreases-loop
+abbrev decreases-loop : tie.decreases-loop-i
 decreases-loop out₀ at e n kept next₀ i₀ out next i = max_additions - i
 
 -- the array's length
-long : (s : tie.Start invariant-loop decreases-loop) → length s.args.t3.additions ≡ max_additions
-long s = (has_room s.args.t3 _ s.well-formed.1.1.0).additions
+long : (s : tie.Start invariant-loop decreases-loop) → length s.args.e.additions ≡ max_additions
+long s = (has_room s.args.e _ s.well_formed.1.1.0).additions
 
 -- the output has room for the section
-room : (s : tie.Start invariant-loop decreases-loop) → let e = s.args.t3 in s.args.at + length (section_bytes addition_form addition_of max_additions blank_addition e.addition_count e.additions) ≤ length s.args.out.now
-room s = rw (additions_are s.args.t3) s.requires
+room : (s : tie.Start invariant-loop decreases-loop) → let e = s.args.e in s.args.at + length (section_bytes addition_form addition_of max_additions blank_addition e.addition_count e.additions) ≤ length s.args.out.now
+room s = rw (additions_are s.args.e) s.requires
 
 -- the count is written: of too many, one more than an edit may have
-counted : (p : tie.After-put-number invariant-loop decreases-loop) → let s = p.before.before.before.before.before in
-    p.put-number.new.0 ≡ put s.args.out.now s.args.at (bytes count_long (min s.args.t3.addition_count (suc max_additions)))
+counted : (p : tie.After-put_number invariant-loop decreases-loop) → let s = p in
+    p.put_number.new.out ≡ put s.args.out.now s.args.at (bytes count_long (min s.args.e.addition_count (suc max_additions)))
 counted p =
-    let s = p.before.before.before.before.before in
-    p.put-number.ensures ∙ ap (λ (n : ℕ). put s.args.out.now s.args.at (bytes count_long n)) p.before.before.lesser2.ensures
+    let s = p in
+    p.put_number.ensures ∙ ap (λ (n : ℕ). put s.args.out.now s.args.at (bytes count_long n)) p.lesser-kept.ensures
 
-lesser-requires : tie.Need-lesser-requires invariant-loop decreases-loop
+lesser-requires : tie.Need-lesser-n-requires invariant-loop decreases-loop
 lesser-requires c κs = search rules
 
-add-lesser : tie.Need-overflow-add-lesser invariant-loop decreases-loop
+add-lesser : tie.Need-overflow_add-lesser invariant-loop decreases-loop
 add-lesser c = search rules
 
-lesser-requires-2 : tie.Need-lesser-requires-2 invariant-loop decreases-loop
+lesser-requires-2 : tie.Need-lesser-kept-requires invariant-loop decreases-loop
 lesser-requires-2 c κs = search rules
 
-put-number-requires : tie.Need-put-number-requires invariant-loop decreases-loop
+put-number-requires : tie.Need-put_number-requires invariant-loop decreases-loop
 put-number-requires c κs =
     let s = c.before.before.before.before in
-    let e = s.args.t3 in
+    let e = s.args.e in
     omega (arith, room s, parts_long addition_form addition_of max_additions blank_addition e.addition_count e.additions)
 
-add-next : tie.Need-overflow-add-next invariant-loop decreases-loop
+add-next : tie.Need-overflow_add-next invariant-loop decreases-loop
 add-next c = search rules
 
-loop-holds : tie.Need-loop-init invariant-loop decreases-loop
+loop-holds : tie.Need-loop-i-init invariant-loop decreases-loop
 loop-holds c = (omega arith, refl, refl, refl)
 
 -- the array has one more that the count names
-more : (i : tie.In-loop invariant-loop decreases-loop) → i.before.loop.i < min i.before.before.before.before.before.before.before.before.before.args.t3.addition_count max_additions
-more i = omega (arith, i.loop-test.true, i.before.before.before.before.before.before.before.lesser.ensures)
+more : (i : tie.In-loop-i invariant-loop decreases-loop) → i.loop-i.i < min i.args.e.addition_count max_additions
+more i = omega (arith, i.loop-i-test.true, i.lesser-n.ensures)
 
-mul-a : tie.Need-overflow-mul-a invariant-loop decreases-loop
+mul-a : tie.Need-offset_bounds-e-i invariant-loop decreases-loop
 mul-a c = omega (arith, more c)
 
-element-copy-out-a : tie.Need-element-copy-out-a invariant-loop decreases-loop
+element-copy-out-a : tie.Need-bounds-e-i invariant-loop decreases-loop
 element-copy-out-a c = omega (arith, more c)
 
-put-addition-requires : tie.Need-put-addition-requires invariant-loop decreases-loop
+put-addition-requires : tie.Need-put_addition-next-requires invariant-loop decreases-loop
 put-addition-requires c κs =
     let t = c.before.before in
-    let l = t.before in
-    let p = l.before.before.before in
+    let l = t in
+    let p = l.before.before.before.before in
     let s = p.before.before.before.before.before in
     let a = s.args in
-    turn_room addition_form addition_of max_additions blank_addition a.t3.addition_count a.t3.additions (long s) a.out.now p.put-number.new.0 a.at (room s) (counted p) l.loop.out l.loop.next l.loop.i l.loop.invariant past_addition (more t)
+    turn_room addition_form addition_of max_additions blank_addition a.e.addition_count a.e.additions (long s) a.out.now p.put_number.new.out a.at (room s) (counted p) l.loop-i.out l.loop-i.next l.loop-i.i l.loop-i.invariant past_addition (more t)
 
-add-i : tie.Need-overflow-add-i invariant-loop decreases-loop
+add-i : tie.Need-overflow_add-i invariant-loop decreases-loop
 add-i c = omega (arith, more c.before.before.before.before.before)
 
-loop-less : tie.Need-loop-smaller invariant-loop decreases-loop
+loop-less : tie.Need-loop-i-smaller invariant-loop decreases-loop
 loop-less c = omega (arith, more c.before.before.before.before.before)
 
-loop-again : tie.Need-loop-preserved invariant-loop decreases-loop
+loop-again : tie.Need-loop-i-preserved invariant-loop decreases-loop
 loop-again c =
-    let w = c.before.before in
-    let t = w.before.before.before in
-    let l = t.before in
-    let p = l.before.before.before in
+    let w = c in
+    let t = w.before.before.before.before.before in
+    let l = t in
+    let p = l.before.before.before.before in
     let s = p.before.before.before.before.before in
     let a = s.args in
-    turn_lays addition_form addition_of max_additions blank_addition a.t3.addition_count a.t3.additions (long s) a.out.now p.put-number.new.0 a.at (room s) (counted p) l.loop.out l.loop.next l.loop.i l.loop.invariant past_addition (more t)
-    w.put-addition.new.0 w.put-addition.result w.put-addition.ensures.0 w.put-addition.ensures.1
+    turn_lays addition_form addition_of max_additions blank_addition a.e.addition_count a.e.additions (long s) a.out.now p.put_number.new.out a.at (room s) (counted p) l.loop-i.out l.loop-i.next l.loop-i.i l.loop-i.invariant past_addition (more t)
+    w.put_addition-next.new.out w.put_addition-next.result w.put_addition-next.ensures.0 w.put_addition-next.ensures.1
 
-blank-key-requires : tie.Need-blank-key-requires invariant-loop decreases-loop
+blank-key-requires : tie.Need-blank_key-blank-requires invariant-loop decreases-loop
 blank-key-requires c κs = search rules
 
 -- no entry of the array is left, but the count names more
-past : (c : tie.Then1 invariant-loop decreases-loop) → let l = c.before.before in let a = l.before.before.before.before.before.before.before.before.args in
-    (min a.t3.addition_count max_additions ≤ l.loop.i) × (l.loop.i < min a.t3.addition_count (suc max_additions))
+past : (c : tie.Then-n-kept invariant-loop decreases-loop) → let l = c in let a = l.args in
+    (min a.e.addition_count max_additions ≤ l.loop-i.i) × (l.loop-i.i < min a.e.addition_count (suc max_additions))
 past c =
-    let l = c.before.before in
-    let k = l.before.before.before.before.before in
-    let n = k.before in
-    (omega (arith, c.before.loop-test.false, n.lesser.ensures), omega (arith, l.loop.invariant.0, c.if1.true, n.lesser.ensures, k.lesser2.ensures))
+    let l = c in
+    let k = l in
+    let n = k in
+    (omega (arith, c.loop-i-test.false, n.lesser-n.ensures), omega (arith, l.loop-i.invariant.0, c.if-n-kept.true, n.lesser-n.ensures, k.lesser-kept.ensures))
 
 -- the output has room for a blank one
-last : (c : tie.Then1 invariant-loop decreases-loop) → c.before.before.loop.next + length (addition_form.write (addition_of blank_addition)) ≤ length c.before.before.loop.out
+last : (c : tie.Then-n-kept invariant-loop decreases-loop) → c.loop-i.next + length (addition_form.write (addition_of blank_addition)) ≤ length c.loop-i.out
 last c =
-    let l = c.before.before in
-    let p = l.before.before.before in
+    let l = c in
+    let p = l.before.before.before.before.before in
     let s = p.before.before.before.before.before in
     let a = s.args in
-    last_room addition_form addition_of max_additions blank_addition a.t3.addition_count a.t3.additions (long s) a.out.now p.put-number.new.0 a.at (room s) (counted p) l.loop.out l.loop.next l.loop.i l.loop.invariant (past c).0 (past c).1
+    last_room addition_form addition_of max_additions blank_addition a.e.addition_count a.e.additions (long s) a.out.now p.put_number.new.out a.at (room s) (counted p) l.loop-i.out l.loop-i.next l.loop-i.i l.loop-i.invariant (past c).0 (past c).1
 
-put-addition-requires-2 : tie.Need-put-addition-requires-2 invariant-loop decreases-loop
-put-addition-requires-2 c κs = rw (blank_addition_lem c.before.blank_key_lem.result c.before.blank_key_lem.ensures) (last c.before.before)
+put-addition-requires-2 : tie.Need-put_addition-requires invariant-loop decreases-loop
+put-addition-requires-2 c κs = rw (blank_addition_lem c.blank_key-blank.result c.blank_key-blank.ensures) (last c.before.before)
 
-same_length : tie.Need-same-length invariant-loop decreases-loop
+same_length : tie.Need-shape_of-out-then-n-kept invariant-loop decreases-loop
 same_length c = search rules
 
-returns : tie.Need-returns invariant-loop decreases-loop
+returns : tie.Need-returns-then-n-kept invariant-loop decreases-loop
 returns c =
-    let w = c.before.before in
-    let t = w.before.before.before in
-    let l = t.before.before in
-    let p = l.before.before.before in
+    let w = c in
+    let t = w.before.before.before.before.before in
+    let l = t in
+    let p = l.before.before.before.before.before in
     let s = p.before.before.before.before.before in
     let a = s.args in
-    let b = w.before.before.blank_key_lem in
-    let e = rw (blank_addition_lem b.result b.ensures) at w.put-addition2.ensures in
-    rw (← additions_are a.t3)
-    (last_lays addition_form addition_of max_additions blank_addition a.t3.addition_count a.t3.additions (long s) a.out.now p.put-number.new.0 a.at (room s) (counted p) l.loop.out l.loop.next l.loop.i l.loop.invariant (past t).0 (past t).1
-    w.put-addition2.new.0 w.put-addition2.result e.0 e.1)
+    let b = w.blank_key-blank in
+    let e = rw (blank_addition_lem b.result b.ensures) at w.put_addition.ensures in
+    rw (← additions_are a.e)
+    (last_lays addition_form addition_of max_additions blank_addition a.e.addition_count a.e.additions (long s) a.out.now p.put_number.new.out a.at (room s) (counted p) l.loop-i.out l.loop-i.next l.loop-i.i l.loop-i.invariant (past t).0 (past t).1
+    w.put_addition.new.out w.put_addition.result e.0 e.1)
 
-same_length_2 : tie.Need-same-length-2 invariant-loop decreases-loop
+same_length_2 : tie.Need-shape_of-out invariant-loop decreases-loop
 same_length_2 c = search rules
 
-returns_2 : tie.Need-returns-2 invariant-loop decreases-loop
+returns_2 : tie.Need-returns invariant-loop decreases-loop
 returns_2 c =
-    let l = c.before.before in
-    let p = l.before.before.before in
+    let l = c in
+    let p = l.before.before.before.before.before in
     let s = p.before.before.before.before.before in
     let a = s.args in
-    rw (← additions_are a.t3)
-    (over_lays addition_form addition_of max_additions blank_addition a.t3.addition_count a.t3.additions (long s) a.out.now p.put-number.new.0 a.at (room s) (counted p) l.loop.out l.loop.next l.loop.i l.loop.invariant
-    (omega (arith, l.loop.invariant.0, c.if1.false, p.before.before.before.lesser.ensures, p.before.before.lesser2.ensures, c.before.loop-test.false)))
+    rw (← additions_are a.e)
+    (over_lays addition_form addition_of max_additions blank_addition a.e.addition_count a.e.additions (long s) a.out.now p.put_number.new.out a.at (room s) (counted p) l.loop-i.out l.loop-i.next l.loop-i.i l.loop-i.invariant
+    (omega (arith, l.loop-i.invariant.0, c.if-n-kept.false, p.lesser-n.ensures, p.lesser-kept.ensures, c.loop-i-test.false)))
 
 pub put_additions_spec : {M : Type 1} → statement M
-put_additions_spec =
-    tie.close
-    (tie.spec
-    invariant-loop
-    decreases-loop
-    lesser-requires
-    add-lesser
-    lesser-requires-2
-    put-number-requires
-    add-next
-    loop-holds
-    mul-a
-    element-copy-out-a
-    put-addition-requires
-    add-i
-    loop-less
-    loop-again
-    blank-key-requires
-    put-addition-requires-2
-    same_length
-    returns
-    same_length_2
-    returns_2)
+put_additions_spec = tie.close (tie.spec invariant-loop decreases-loop lesser-requires add-lesser lesser-requires-2 put-number-requires add-next loop-holds mul-a element-copy-out-a put-addition-requires add-i loop-less loop-again blank-key-requires put-addition-requires-2 same_length returns same_length_2 returns_2)

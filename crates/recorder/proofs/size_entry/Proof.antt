@@ -14,88 +14,73 @@ use Rattle.recorder.specs.RecorderLaws.{longest_entry, size_long, size_laid, tol
 use Rattle.recorder.proofs.size_entry.Statement.{statement}
 use Rattle.recorder.proofs.size_entry.Tie as tie
 
-can-tell-requires : tie.Need-can-tell-requires
+can-tell-requires : tie.Need-can_tell-requires
 can-tell-requires c κs = search rules
 
-returns : tie.Need-returns
+returns : tie.Need-returns-then-not-can_tell
 returns c =
-    let w = c.before.can-tell in
-    let a = c.before.before.before.args in
+    let w = c.can_tell in
+    let a = c.args in
     let n = length a.out.now in
-    said_refused (pick_entry asks_size a.o a.c n) 14 a.out.now (pick_ill asks_size a.o a.c n (sym w.ensures ∙ not-true w.result c.if1.true))
+    said_refused (pick_entry asks_size a.o a.c n) 14 a.out.now (pick_ill asks_size a.o a.c n (sym w.ensures ∙ c.if-not-can_tell.true))
 
 -- the answer can be kept
-told : (c : tie.Else1) → can_tell c.before.before.before.args.o c.before.before.before.args.c ≡ true
-told c = let w = c.before.can-tell in sym w.ensures ∙ not-false w.result c.if1.false
+told : (c : tie.Else-not-can_tell) → can_tell c.args.o c.args.c ≡ true
+told c = let w = c.can_tell in sym w.ensures ∙ c.if-not-can_tell.false
 
-room-requires : tie.Need-room-requires
+room-requires : tie.Need-room-laid-requires
 room-requires c κs = search rules
 
 -- the room has the longest entry's length, so the entry fits
-fits : (c : tie.After-room) → let a = c.before.before.before.before.args in length (asked_form.write asks_size) + length (given_bytes (picked_given a.o a.c)) ≤ length c.room.result
+fits : (c : tie.After-room-laid) → let a = c.args in length (asked_form.write asks_size) + length (given_bytes (picked_given a.o a.c)) ≤ length c.room-laid.result
 fits c =
-    let a = c.before.before.before.before.args in
-    let full : length c.room.result ≡ longest_entry = search rules in
+    let a = c.args in
+    let full : length c.room-laid.result ≡ longest_entry = search rules in
     omega (arith, full, size_long, told_long a.o a.c (told c.before))
 
-slice-aggregate-put-number : tie.Need-slice-aggregate-put-number
+slice-aggregate-put-number : tie.Need-slice_bounds-put_number-end
 slice-aggregate-put-number c = search rules
 
-put-number-requires : tie.Need-put-number-requires
+put-number-requires : tie.Need-put_number-requires
 put-number-requires c κs = search rules
 
-slice-aggregate-put-picked : tie.Need-slice-aggregate-put-picked
+slice-aggregate-put-picked : tie.Need-slice_bounds-put_picked-end
 slice-aggregate-put-picked c = search rules
 
-put-picked-requires : tie.Need-put-picked-requires
+put-picked-requires : tie.Need-put_picked-n-requires
 put-picked-requires c κs =
-    let p = c.before.before in
-    let r = p.before.before in
-    (told r.before, omega (arith, fits r, size_long, p.put-number.auto))
+    let p = c in
+    let r = p.before.before.before.before in
+    (told r.before, omega (arith, fits r, size_long, p.put_number.auto))
 
-sub-hand : tie.Need-overflow-sub-hand
+sub-hand : tie.Need-slice_bounds-hand-count
 sub-hand c = search rules
 
-part-hand-start : tie.Need-slice-bounds-hand-start
+part-hand-start : tie.Need-slice_bounds-hand-start
 part-hand-start c = search rules
 
-part-hand-end : tie.Need-slice-bounds-hand-end
+part-hand-end : tie.Need-slice_bounds-hand-end
 part-hand-end c =
-    let q = c.before.before.before in
-    let p = q.before.before.before in
-    omega (arith, fits p.before.before, size_long, p.put-number.auto, q.put-picked.ensures.0, q.put-picked.auto)
+    let q = c in
+    let p = q in
+    omega (arith, fits p.before.before.before.before.before.before.before, size_long, p.put_number.auto, q.put_picked-n.ensures.0, q.put_picked-n.auto)
 
 hand-requires : tie.Need-hand-requires
 hand-requires c κs = search rules
 
-same_length : tie.Need-same-length
+same_length : tie.Need-shape_of-out
 same_length c = search rules
 
-returns_2 : tie.Need-returns-2
+returns_2 : tie.Need-returns
 returns_2 c =
-    let h = c.before.before in
-    let q = h.before.before.before.before.before in
-    let p = q.before.before.before in
-    let r = p.before.before in
-    let a = r.before.before.before.before.args in
-    let e = q.put-picked.ensures in
-    let laid = entry_laid asks_size (picked_given a.o a.c) r.room.result p.put-number.new.0 q.put-picked.new.0 1 q.put-picked.result (fits r) (size_laid r.room.result p.put-number.new.0 p.put-number.ensures) (sym size_long) e.1 e.0 in
-    pick_said asks_size a.o a.c (told r.before) (take (q.put-picked.result - 0) q.put-picked.new.0) a.out.now h.hand.new.0 h.hand.result laid h.hand.ensures
+    let h = c in
+    let q = h in
+    let p = q in
+    let r = p.before.before.before.before.before.before.before.before.before.before.before in
+    let a = r.args in
+    let e = q.put_picked-n.ensures in
+    let laid = entry_laid asks_size (picked_given a.o a.c) r.room-laid.result p.put_number.new.out q.put_picked-n.new.out 1 q.put_picked-n.result (fits r) (size_laid r.room-laid.result p.put_number.new.out p.put_number.ensures) (sym size_long) e.1 e.0 in
+    pick_said asks_size a.o a.c (told r.before) (take (q.put_picked-n.result - 0) q.put_picked-n.new.out) a.out.now h.hand.new.out h.hand.result laid h.hand.ensures
 
 pub size_entry_spec : {M : Type 1} → statement M
-size_entry_spec =
-    tie.close
-    (tie.spec
-    can-tell-requires
-    returns
-    room-requires
-    slice-aggregate-put-number
-    put-number-requires
-    slice-aggregate-put-picked
-    put-picked-requires
-    sub-hand
-    part-hand-start
-    part-hand-end
-    hand-requires
-    same_length
-    returns_2)
+size_entry_spec = tie.close (tie.spec can-tell-requires returns room-requires slice-aggregate-put-number put-number-requires slice-aggregate-put-picked put-picked-requires sub-hand part-hand-start part-hand-end hand-requires same_length returns_2)

@@ -4,7 +4,7 @@ use Rattle.replay_given.specs.GivenLaws.{no_nan}
 use Rattle.replay_given.proofs.bits_of.Statement.{statement}
 use Rattle.replay_given.proofs.bits_of.Tie as tie
 
-float-to-bits-result : tie.Need-float-to-bits-result
+float-to-bits-result : tie.Need-float_to_bits-result
 float-to-bits-result c = no_nan c.args.x c.requires
 
 returns : tie.Need-returns

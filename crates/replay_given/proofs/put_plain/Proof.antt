@@ -13,65 +13,54 @@ use Rattle.replay_given.specs.GivenLaws.{refused_given, accepted_is, bare_long, 
 use Rattle.replay_given.proofs.put_plain.Statement.{statement}
 use Rattle.replay_given.proofs.put_plain.Tie as tie
 
-enum_told : tie.Need-enum-told
+enum_told : tie.Need-enum_told-1
 enum_told c = search rules
 
 -- an accepted call: a tag
-done : (t : tie.After-enum-told) → given_bytes (plain_given t.before.before.before.args.o) ≡ tag accepted_tag []
-done t = accepted_is t.before.before.before.args.o t.enum_told.given.1
+done : (t : tie.In-Done) → given_bytes (plain_given t.args.o) ≡ tag accepted_tag []
+done t = accepted_is t.args.o t.in-Done.is
 
-put-number-requires : tie.Need-put-number-requires
+put-number-requires : tie.Need-put_number-requires
 put-number-requires c κs =
     let t = c.before in
-    let n = bare_long (given_bytes (plain_given t.before.before.before.args.o)) accepted_tag (done t) in
+    let n = bare_long (given_bytes (plain_given t.args.o)) accepted_tag (done t) in
     omega arith
 
-add-result : tie.Need-overflow-add-result
+add-result : tie.Need-overflow_add-result
 add-result c = search rules
 
-enum-known-o : tie.Need-enum-known-o
+enum-known-o : tie.Need-enum_known-o
 enum-known-o c = search rules
 
 -- a refused call: its refusal
-not_done : (t : tie.After-o) → given_bytes (plain_given t.before.before.before.args.o) ≡ given_bytes (refused t.o.given.0.0)
-not_done t = refused_given t.before.before.before.args.o accepted t.o.given.0.0 t.o.given.1
+not_done : (t : tie.In-Refused) → given_bytes (plain_given t.args.o) ≡ given_bytes (refused t.in-Refused.n)
+not_done t = refused_given t.args.o accepted t.in-Refused.n t.in-Refused.is
 
-put-refused-requires : tie.Need-put-refused-requires
+put-refused-requires : tie.Need-put_refused-requires
 put-refused-requires c κs =
-    let n = ap length (not_done c.before.before) in
+    let n = ap length (not_done c.before) in
     omega arith
 
-same_length : tie.Need-same-length
+same_length : tie.Need-shape_of-out-in-Done
 same_length c = search rules
 
-returns : tie.Need-returns
+returns : tie.Need-returns-in-Done
 returns c =
-    let p = c.before.before in
-    let t = p.before.before in
-    let a = t.before.before.before.args in
+    let p = c in
+    let t = p.before.before.before.before in
+    let a = t.args in
     let bs = given_bytes (plain_given a.o) in
     let n = bare_long bs accepted_tag (done t) in
-    (omega arith, bare_laid bs accepted_tag (done t) a.out.now p.put-number.new.0 a.at p.put-number.ensures)
+    (omega arith, bare_laid bs accepted_tag (done t) a.out.now p.put_number.new.out a.at p.put_number.ensures)
 
-same_length_2 : tie.Need-same-length-2
+same_length_2 : tie.Need-shape_of-out-in-Refused
 same_length_2 c = search rules
 
-returns_2 : tie.Need-returns-2
+returns_2 : tie.Need-returns-in-Refused
 returns_2 c =
-    let p = c.before.before in
-    let t = p.before.before.before in
-    rw (not_done t) p.Put-refused.ensures
+    let p = c in
+    let t = p.before.before.before.before in
+    rw (not_done t) p.put_refused.ensures
 
 pub put_plain_spec : {M : Type 1} → statement M
-put_plain_spec =
-    tie.close
-    (tie.spec
-    enum_told
-    put-number-requires
-    add-result
-    enum-known-o
-    put-refused-requires
-    same_length
-    returns
-    same_length_2
-    returns_2)
+put_plain_spec = tie.close (tie.spec enum_told put-number-requires add-result enum-known-o put-refused-requires same_length returns same_length_2 returns_2)

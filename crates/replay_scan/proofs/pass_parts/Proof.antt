@@ -6,54 +6,43 @@ use Rattle.replay_scan.specs.ScanLaws.{passes, told, PassedTo, parts_begin, part
 use Rattle.replay_scan.proofs.pass_parts.Statement.{statement}
 use Rattle.replay_scan.proofs.pass_parts.Tie as tie
 
-abbrev invariant-loop : tie.invariant-loop
+abbrev invariant-loop : tie.invariant-loop-i
 invariant-loop src at n width keys next₀ i₀ next i = PassedTo src at n (part_takes width keys) next i
 
-abbrev decreases-loop : tie.decreases-loop
+abbrev decreases-loop : tie.decreases-loop-i
 decreases-loop src at n width keys next₀ i₀ next i = n - i
 
-loop-holds : tie.Need-loop-init invariant-loop decreases-loop
+loop-holds : tie.Need-loop-i-init invariant-loop decreases-loop
 loop-holds c =
-    let a = c.before.args in
+    let a = c.args in
     parts_begin a.src.now a.at a.n (part_takes a.width a.keys) (omega arith)
 
-pass-part-requires : tie.Need-pass-part-requires invariant-loop decreases-loop
-pass-part-requires c κs = c.before.loop.invariant.within
+pass-part-requires : tie.Need-pass_part-p-requires invariant-loop decreases-loop
+pass-part-requires c κs = c.loop-i.invariant.within
 
-returns : tie.Need-returns invariant-loop decreases-loop
+returns : tie.Need-returns-then-not-p invariant-loop decreases-loop
 returns c =
-    let k = c.before.before in
-    let l = k.before.before in
-    let a = l.before.before.args in
-    let p = passes a.src.now l.loop.next (part_takes a.width a.keys) k.pass-part.ensures in
-    told (parts_stop l.loop.invariant (omega arith) p c.if1.true)
+    let k = c in
+    let l = k in
+    let a = l.args in
+    let p = passes a.src.now l.loop-i.next (part_takes a.width a.keys) k.pass_part-p.ensures in
+    told (parts_stop l.loop-i.invariant (omega arith) p c.if-not-p.true)
 
-add-i : tie.Need-overflow-add-i invariant-loop decreases-loop
+add-i : tie.Need-overflow_add-i invariant-loop decreases-loop
 add-i c = omega arith
 
-loop-less : tie.Need-loop-smaller invariant-loop decreases-loop
+loop-less : tie.Need-loop-i-smaller invariant-loop decreases-loop
 loop-less c = omega arith
 
-loop-again : tie.Need-loop-preserved invariant-loop decreases-loop
+loop-again : tie.Need-loop-i-preserved invariant-loop decreases-loop
 loop-again c =
-    let k = c.before.before in
-    let l = k.before.before in
-    let a = l.before.before.args in
-    parts_turn l.loop.invariant (omega arith) (whole_part a.src.now l.loop.next (part_takes a.width a.keys) k.pass-part.ensures c.if1.false)
+    let k = c in
+    let l = k in
+    let a = l.args in
+    parts_turn l.loop-i.invariant (omega arith) (whole_part a.src.now l.loop-i.next (part_takes a.width a.keys) k.pass_part-p.ensures c.if-not-p.false)
 
-returns_2 : tie.Need-returns-2 invariant-loop decreases-loop
-returns_2 c = told (parts_over c.before.loop.invariant (omega arith))
+returns_2 : tie.Need-returns invariant-loop decreases-loop
+returns_2 c = told (parts_over c.loop-i.invariant (omega arith))
 
 pub pass_parts_spec : {M : Type 1} → statement M
-pass_parts_spec =
-    tie.close
-    (tie.spec
-    invariant-loop
-    decreases-loop
-    loop-holds
-    pass-part-requires
-    returns
-    add-i
-    loop-less
-    loop-again
-    returns_2)
+pass_parts_spec = tie.close (tie.spec invariant-loop decreases-loop loop-holds pass-part-requires returns add-i loop-less loop-again returns_2)

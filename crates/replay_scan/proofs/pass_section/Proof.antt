@@ -5,39 +5,38 @@ use Rattle.replay_scan.specs.ScanLaws.{passes, told, Counts, count_stops, count_
 use Rattle.replay_scan.proofs.pass_section.Statement.{statement}
 use Rattle.replay_scan.proofs.pass_section.Tie as tie
 
-pass-requires : tie.Need-pass-requires
+pass-requires : tie.Need-pass-start-requires
 pass-requires c κs = search rules
 
-returns : tie.Need-returns
+returns : tie.Need-returns-then-not-start
 unfolding section_takes
 returns c =
-    let s = c.before.before in
-    let a = s.before.before.args in
-    told (count_stops 2 (passes a.src.now a.at (takes 2) s.pass.ensures) _ c.if1.true)
+    let s = c in
+    let a = s.args in
+    told (count_stops 2 (passes a.src.now a.at (takes 2) s.pass-start.ensures) _ c.if-not-start.true)
 
-get-number-requires : tie.Need-get-number-requires
+get-number-requires : tie.Need-get_number-n-requires
 get-number-requires c κs = search rules
 
 -- the count is whole
-count : (c : tie.After-get-number) → let s = c.before.before.before in let a = s.before.before.args in Counts a.src.now a.at 2 s.pass.result c.get-number.result
+count : (c : tie.After-get_number-n) → let s = c in let a = s.args in Counts a.src.now a.at 2 s.pass-start.result c.get_number-n.result
 count c =
-    let i = c.before in
-    let s = i.before.before in
-    let a = s.before.before.args in
-    whole_number a.src.now a.at 2 s.pass.ensures i.if1.false c.get-number.ensures
+    let i = c in
+    let s = i in
+    let a = s.args in
+    whole_number a.src.now a.at 2 s.pass-start.ensures i.if-not-start.false c.get_number-n.ensures
 
-pass-parts-requires : tie.Need-pass-parts-requires
+pass-parts-requires : tie.Need-pass_parts-requires
 pass-parts-requires c κs = search rules
 
-returns_2 : tie.Need-returns-2
+returns_2 : tie.Need-returns
 unfolding section_takes
 returns_2 c =
     let g = c.before in
-    let s = g.before.before.before in
-    let a = s.before.before.args in
+    let s = g in
+    let a = s.args in
     let f = part_takes a.width a.keys in
-    told (count_goes_on (count g) (λ n. repeated n f) (passes a.src.now s.pass.result.at (repeated g.get-number.result f) c.pass-parts.ensures))
+    told (count_goes_on (count g) (λ n. repeated n f) (passes a.src.now s.pass-start.result.at (repeated g.get_number-n.result f) c.pass_parts.ensures))
 
 pub pass_section_spec : {M : Type 1} → statement M
-pass_section_spec =
-    tie.close (tie.spec pass-requires returns get-number-requires pass-parts-requires returns_2)
+pass_section_spec = tie.close (tie.spec pass-requires returns get-number-requires pass-parts-requires returns_2)
