@@ -5,12 +5,11 @@ ghost use Rattle.shell_file.specs.Opening.{Left};
 
 use snapshot_parts::Snapshot;
 use snapshot_write::Written;
-use std::fs;
 use std::fs::{File, OpenFile, OpenOptions};
 use std::io::{ErrorKind, Read, Write};
 use std::os::unix::fs::OpenOptionsExt;
 use std::rt::Files;
-use std::str;
+use std::{fs, str};
 use store::Store;
 
 // A store, and where the answer of the command ends that left it.
