@@ -1,5 +1,5 @@
 -- `compact_in_turn` meets its contract: where the turns of manual picks stand (`TurnsLaws.antt`). Assumes nothing.
-use Rattle.std.proofs.Common.{◌≤◌, ◌<◌, arith}
+use Rattle.std.proofs.Common.{arith}
 use Rattle.model.specs.File.{full}
 use Rattle.model.specs.Pick as model
 use Rattle.keys.specs.Key.{key_of}

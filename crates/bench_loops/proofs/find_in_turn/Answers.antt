@@ -1,7 +1,7 @@
 -- `find_in_turn` meets its contract: each turn keeps the sum that comes (`RoundsLaws.antt`). Assumes nothing.
-use Rattle.std.proofs.Common.{map, arith}
+use Rattle.std.proofs.Common.{map}
 use Rattle.records.specs.Record.{file_of}
-use Rattle.bench_loops.specs.RoundsLaws.{turn_small, Turning, turning_starts, turning_keeps, turning_ended}
+use Rattle.bench_loops.specs.RoundsLaws.{turn_small, turning_starts, turning_keeps, turning_ended}
 use Rattle.bench_loops.proofs.find_in_turn.Goals as goal
 
 pub loop-r-init : goal.loop-r-init

@@ -1,5 +1,5 @@
 -- `pick_in_turn` meets its contract: where the turns of size picks stand (`TurnsLaws.antt`). Assumes nothing.
-use Rattle.std.proofs.Common.{◌≤◌, ◌<◌, arith}
+use Rattle.std.proofs.Common.{arith}
 use Rattle.model.specs.File.{full}
 use Rattle.model.specs.Pick as model
 use Rattle.bench_loops.specs.TurnsLaws.{Standing, starts_same, next_same, next_few, standing_ended, sizes_are}

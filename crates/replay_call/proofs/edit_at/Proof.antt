@@ -15,116 +15,116 @@ use Rattle.replay_call.proofs.edit_at.Statement.{statement}
 use Rattle.replay_call.proofs.edit_at.Tie as tie
 
 -- ---- the pointers
-get-number-requires : tie.Need-get-number-requires
+get-number-requires : tie.Need-get_number-n-requires
 get-number-requires c κs = search rules
 
-add-pointings-at : tie.Need-overflow-add-pointings-at
+add-pointings-at : tie.Need-overflow_add-at
 add-pointings-at c = search rules
 
 lesser-requires : tie.Need-lesser-requires
 lesser-requires c κs = search rules
 
-pointings-at-requires : tie.Need-pointings-at-requires
+pointings-at-requires : tie.Need-pointings_at-pointings-requires
 pointings-at-requires c κs =
-    let g = c.before in
-    section_fewer number_long 1 (edit_pointers g.before.before.requires) max_pointers g.get-number.result g.get-number.ensures c.lesser.ensures
+    let g = c in
+    section_fewer number_long 1 (edit_pointers g.requires) max_pointers g.get_number-n.result g.get_number-n.ensures c.lesser.ensures
 
-pass-section-requires : tie.Need-pass-section-requires
+pass-section-requires : tie.Need-pass_section-a-requires
 pass-section-requires c κs = search rules
 
 -- they are passed
-past_pointers_lem : (c : tie.After-pass-section) → let a = c.before.before.before.before.before.args in Passes a.src.now a.at (section_takes number_long 1) c.pass-section.result
-past_pointers_lem c = let a = c.before.before.before.before.before.args in passes a.src.now a.at (section_takes number_long 1) c.pass-section.ensures
+past_pointers_lem : (c : tie.After-pass_section-a) → let a = c.args in Passes a.src.now a.at (section_takes number_long 1) c.pass_section-a.result
+past_pointers_lem c = let a = c.args in passes a.src.now a.at (section_takes number_long 1) c.pass_section-a.ensures
 
 -- ---- the deletions
-deletions : (c : tie.After-pass-section) → let a = c.before.before.before.before.before.args in Begins (section_takes keys_at 0) a.src.now c.pass-section.result.at
-deletions c = edit_deletions c.before.before.before.before.before.requires (past_pointers_lem c)
+deletions : (c : tie.After-pass_section-a) → let a = c.args in Begins (section_takes keys_at 0) a.src.now c.pass_section-a.result.at
+deletions c = edit_deletions c.requires (past_pointers_lem c)
 
-get-number-requires-2 : tie.Need-get-number-requires-2
+get-number-requires-2 : tie.Need-get_number-m-requires
 get-number-requires-2 c κs = search rules
 
-add-deletions-at : tie.Need-overflow-add-deletions-at
+add-deletions-at : tie.Need-overflow_add-a
 add-deletions-at c = search rules
 
 lesser-requires-2 : tie.Need-lesser-requires-2
 lesser-requires-2 c κs = search rules
 
-deletions-at-requires : tie.Need-deletions-at-requires
+deletions-at-requires : tie.Need-deletions_at-deletions-requires
 deletions-at-requires c κs =
-    let g = c.before.before in
-    section_fewer keys_at 0 (deletions g.before) max_deletions g.get-number2.result g.get-number2.ensures c.lesser2.ensures
+    let g = c in
+    section_fewer keys_at 0 (deletions g.before.before.before) max_deletions g.get_number-m.result g.get_number-m.ensures c.lesser-2.ensures
 
-pass-section-requires-2 : tie.Need-pass-section-requires-2
+pass-section-requires-2 : tie.Need-pass_section-b-requires
 pass-section-requires-2 c κs = search rules
 
 -- they are passed
-past_deletions_lem : (c : tie.After-pass-section2) → let p = c.before.before.before.before.before in let a = p.before.before.before.before.before.args in
-    Passes a.src.now p.pass-section.result.at (section_takes keys_at 0) c.pass-section2.result
+past_deletions_lem : (c : tie.After-pass_section-b) → let p = c in let a = p.args in
+    Passes a.src.now p.pass_section-a.result.at (section_takes keys_at 0) c.pass_section-b.result
 past_deletions_lem c =
-    let p = c.before.before.before.before.before in
-    passes p.before.before.before.before.before.args.src.now p.pass-section.result.at (section_takes keys_at 0) c.pass-section2.ensures
+    let p = c in
+    passes p.args.src.now p.pass_section-a.result.at (section_takes keys_at 0) c.pass_section-b.ensures
 
 -- ---- the additions
-additions : (c : tie.After-pass-section2) → let a = c.before.before.before.before.before.before.before.before.before.before.args in Begins (section_takes (number_long + keys_at) 2) a.src.now c.pass-section2.result.at
+additions : (c : tie.After-pass_section-b) → let a = c.args in Begins (section_takes (number_long + keys_at) 2) a.src.now c.pass_section-b.result.at
 additions c =
     let p = c.before.before.before.before.before in
-    edit_additions p.before.before.before.before.before.requires (past_pointers_lem p) (past_deletions_lem c)
+    edit_additions p.requires (past_pointers_lem p) (past_deletions_lem c)
 
-get-number-requires-3 : tie.Need-get-number-requires-3
+get-number-requires-3 : tie.Need-get_number-k-requires
 get-number-requires-3 c κs = search rules
 
-add-additions-at : tie.Need-overflow-add-additions-at
+add-additions-at : tie.Need-overflow_add-b
 add-additions-at c = search rules
 
 lesser-requires-3 : tie.Need-lesser-requires-3
 lesser-requires-3 c κs = search rules
 
-additions-at-requires : tie.Need-additions-at-requires
+additions-at-requires : tie.Need-additions_at-additions-requires
 additions-at-requires c κs =
-    let g = c.before.before in
-    section_fewer (number_long + keys_at) 2 (additions g.before) max_additions g.get-number3.result g.get-number3.ensures c.lesser3.ensures
+    let g = c in
+    section_fewer (number_long + keys_at) 2 (additions g.before.before.before) max_additions g.get_number-k.result g.get_number-k.ensures c.lesser-3.ensures
 
-add-pass-section : tie.Need-overflow-add-pass-section
+add-pass-section : tie.Need-overflow_add-pass_section
 add-pass-section c = search rules
 
-pass-section-requires-3 : tie.Need-pass-section-requires-3
+pass-section-requires-3 : tie.Need-pass_section-c-requires
 pass-section-requires-3 c κs = search rules
 
 -- they are passed
-past_additions : (c : tie.After-pass-section3) → let q = c.before.before.before.before.before in let a = q.before.before.before.before.before.before.before.before.before.before.args in
-    Passes a.src.now q.pass-section2.result.at (section_takes (number_long + keys_at) 2) c.pass-section3.result
+past_additions : (c : tie.After-pass_section-c) → let q = c in let a = q.args in
+    Passes a.src.now q.pass_section-b.result.at (section_takes (number_long + keys_at) 2) c.pass_section-c.result
 past_additions c =
-    let q = c.before.before.before.before.before in
-    let a = q.before.before.before.before.before.before.before.before.before.before.args in
-    passes a.src.now q.pass-section2.result.at (section_takes (number_long + keys_at) 2) c.pass-section3.ensures
+    let q = c in
+    let a = q.args in
+    passes a.src.now q.pass_section-b.result.at (section_takes (number_long + keys_at) 2) c.pass_section-c.ensures
 
 -- ---- the log number, and all of it
-log-at-requires : tie.Need-log-at-requires
+log-at-requires : tie.Need-log_at-log-requires
 log-at-requires c κs =
     let q = c.before.before.before.before.before in
     let p = q.before.before.before.before.before in
-    edit_log p.before.before.before.before.before.requires (past_pointers_lem p) (past_deletions_lem q) (past_additions c)
+    edit_log p.requires (past_pointers_lem p) (past_deletions_lem q) (past_additions c)
 
 returns : tie.Need-returns
 unfolding edit_record
 returns c =
     let r = c.before in
-    let x = r.before in
-    let h = x.before.before.before in
-    let q = h.before in
-    let y = q.before in
-    let g = y.before.before.before in
-    let p = g.before in
-    let z = p.before in
-    let f = z.before.before in
-    let b = f.before.before.requires in
-    let ps = section_filled number_long 1 (edit_pointers b) pointer_form pointer_measured max_pointers blank_pointing pointing_record f.get-number.result f.get-number.ensures z.before.lesser.ensures z.pointings-at.ensures in
-    let np = section_long number_long 1 (edit_pointers b) pointer_form pointer_measured f.get-number.ensures in
-    let ds = section_filled keys_at 0 (deletions p) deletion_form deletion_measured max_deletions blank_deletion deletion_record g.get-number2.result g.get-number2.ensures y.before.lesser2.ensures y.deletions-at.ensures in
-    let nd = section_long keys_at 0 (deletions p) deletion_form deletion_measured g.get-number2.ensures in
-    let xs = section_filled (number_long + keys_at) 2 (additions q) addition_form addition_measured max_additions blank_addition addition_record h.get-number3.result h.get-number3.ensures x.before.lesser3.ensures x.additions-at.ensures in
-    let nx = section_long (number_long + keys_at) 2 (additions q) addition_form addition_measured h.get-number3.ensures in
-    let l = c.log-at.ensures in
+    let x = r in
+    let h = x in
+    let q = h.before.before.before.before.before in
+    let y = q in
+    let g = y in
+    let p = g.before.before.before.before.before in
+    let z = p in
+    let f = z in
+    let b = f.requires in
+    let ps = section_filled number_long 1 (edit_pointers b) pointer_form pointer_measured max_pointers blank_pointing pointing_record f.get_number-n.result f.get_number-n.ensures z.lesser.ensures z.pointings_at-pointings.ensures in
+    let np = section_long number_long 1 (edit_pointers b) pointer_form pointer_measured f.get_number-n.ensures in
+    let ds = section_filled keys_at 0 (deletions p) deletion_form deletion_measured max_deletions blank_deletion deletion_record g.get_number-m.result g.get_number-m.ensures y.lesser-2.ensures y.deletions_at-deletions.ensures in
+    let nd = section_long keys_at 0 (deletions p) deletion_form deletion_measured g.get_number-m.ensures in
+    let xs = section_filled (number_long + keys_at) 2 (additions q) addition_form addition_measured max_additions blank_addition addition_record h.get_number-k.result h.get_number-k.ensures x.lesser-3.ensures x.additions_at-additions.ensures in
+    let nx = section_long (number_long + keys_at) 2 (additions q) addition_form addition_measured h.get_number-k.ensures in
+    let l = c.log_at-log.ensures in
     (λ i. record {
       pointings = ps i;
       pointing_count = np i;
@@ -137,24 +137,4 @@ returns c =
     ∙ ap edit_record (sym (edit_value b (past_pointers_lem p) (past_deletions_lem q) (past_additions r)))
 
 pub edit_at_spec : {M : Type 1} → statement M
-edit_at_spec =
-    tie.close
-    (tie.spec
-    get-number-requires
-    add-pointings-at
-    lesser-requires
-    pointings-at-requires
-    pass-section-requires
-    get-number-requires-2
-    add-deletions-at
-    lesser-requires-2
-    deletions-at-requires
-    pass-section-requires-2
-    get-number-requires-3
-    add-additions-at
-    lesser-requires-3
-    additions-at-requires
-    add-pass-section
-    pass-section-requires-3
-    log-at-requires
-    returns)
+edit_at_spec = tie.close (tie.spec get-number-requires add-pointings-at lesser-requires pointings-at-requires pass-section-requires get-number-requires-2 add-deletions-at lesser-requires-2 deletions-at-requires pass-section-requires-2 get-number-requires-3 add-additions-at lesser-requires-3 additions-at-requires add-pass-section pass-section-requires-3 log-at-requires returns)

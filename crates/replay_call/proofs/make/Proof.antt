@@ -5,102 +5,86 @@ use Rattle.replay_call.proofs.make.Statement.{statement}
 use Rattle.replay_call.proofs.make.Tie as tie
 
 -- the start, from where the tag is read
-abbrev start : tie.After-get-number → tie.Start
+abbrev start : tie.After-get_number-tag → tie.Start
 start c = c.before.before.before
 
-get-number-requires : tie.Need-get-number-requires
+get-number-requires : tie.Need-get_number-tag-requires
 get-number-requires c κs = search rules
 
-add_start : tie.Need-overflow-add-start
+add_start : tie.Need-overflow_add-start
 add_start c = search rules
 
-make-edit-requires : tie.Need-make-edit-requires
+make-edit-requires : tie.Need-make_edit-requires
 make-edit-requires c κs =
-    let i = c.before in
-    let g = i.before in
-    let s = start g in
-    (s.pre.0, edit_begins s.pre.1 g.get-number.ensures i.if1.true, s.pre.2)
-
-same_length : tie.Need-same-length
-same_length c = search rules
-
-returns : tie.Need-returns
-returns c =
-    let d = c.before.before in
-    let i = d.before.before in
-    let g = i.before in
-    let s = start g in
-    rw (edit_asked s.pre.1 g.get-number.ensures s.args.maximum i.if1.true) d.make-edit.ensures
-
-make-size-requires : tie.Need-make-size-requires
-make-size-requires c κs = search rules
-
-same_length_2 : tie.Need-same-length-2
-same_length_2 c = search rules
-
-returns_2 : tie.Need-returns-2
-returns_2 c =
-    let d = c.before.before in
-    let i = d.before.before in
+    let i = c in
     let g = i.before.before in
     let s = start g in
-    rw (size_asked s.pre.1 g.get-number.ensures s.args.maximum i.if2.true) d.make-size.ensures
+    (s.requires.0, edit_begins s.requires.1 g.get_number-tag.ensures i.if-tag-eq-EDIT.true, s.requires.2)
 
-make-range-requires : tie.Need-make-range-requires
-make-range-requires c κs =
-    let i = c.before in
-    let g = i.before.before.before in
+same_length : tie.Need-shape_of-room-then-tag-eq-EDIT
+same_length c = search rules
+
+returns : tie.Need-returns-then-tag-eq-EDIT
+returns c =
+    let d = c in
+    let i = d in
+    let g = i.before.before.before.before.before in
     let s = start g in
-    (s.pre.0, range_begins s.pre.1 g.get-number.ensures i.if3.true, s.pre.2)
+    rw (edit_asked s.requires.1 g.get_number-tag.ensures s.args.maximum i.if-tag-eq-EDIT.true) d.make_edit.ensures
 
-same_length_3 : tie.Need-same-length-3
+make-size-requires : tie.Need-make_size-requires
+make-size-requires c κs = search rules
+
+same_length_2 : tie.Need-shape_of-room-then-tag-eq-SIZE
+same_length_2 c = search rules
+
+returns_2 : tie.Need-returns-then-tag-eq-SIZE
+returns_2 c =
+    let d = c in
+    let i = d in
+    let g = i.before.before.before.before.before.before in
+    let s = start g in
+    rw (size_asked s.requires.1 g.get_number-tag.ensures s.args.maximum i.if-tag-eq-SIZE.true) d.make_size.ensures
+
+make-range-requires : tie.Need-make_range-requires
+make-range-requires c κs =
+    let i = c in
+    let g = i.before.before.before.before in
+    let s = start g in
+    (s.requires.0, range_begins s.requires.1 g.get_number-tag.ensures i.if-tag-eq-RANGE.true, s.requires.2)
+
+same_length_3 : tie.Need-shape_of-room-then-tag-eq-RANGE
 same_length_3 c = search rules
 
-returns_3 : tie.Need-returns-3
+returns_3 : tie.Need-returns-then-tag-eq-RANGE
 returns_3 c =
-    let d = c.before.before in
-    let i = d.before.before in
-    let g = i.before.before.before in
+    let d = c in
+    let i = d in
+    let g = i.before.before.before.before.before.before.before in
     let s = start g in
-    rw (range_asked s.pre.1 g.get-number.ensures s.args.maximum i.if3.true) d.make-range.ensures
+    rw (range_asked s.requires.1 g.get_number-tag.ensures s.args.maximum i.if-tag-eq-RANGE.true) d.make_range.ensures
 
-make-count-requires : tie.Need-make-count-requires
+make-count-requires : tie.Need-make_count-requires
 make-count-requires c κs =
-    let third = c.before in
-    let second = third.before in
-    let first = second.before in
-    let g = first.before in
+    let third = c in
+    let second = third in
+    let first = second in
+    let g = first.before.before.before.before in
     let s = start g in
-    (s.pre.0, count_begins s.pre.1 g.get-number.ensures first.if1.false second.if2.false third.if3.false, s.pre.2)
+    (s.requires.0, count_begins s.requires.1 g.get_number-tag.ensures first.if-tag-eq-EDIT.false second.if-tag-eq-SIZE.false third.if-tag-eq-RANGE.false, s.requires.2)
 
-same_length_4 : tie.Need-same-length-4
+same_length_4 : tie.Need-shape_of-room
 same_length_4 c = search rules
 
-returns-4 : tie.Need-returns-4
+returns-4 : tie.Need-returns
 returns-4 c =
-    let d = c.before.before in
-    let third = d.before.before in
-    let second = third.before in
-    let first = second.before in
-    let g = first.before in
+    let d = c in
+    let third = d in
+    let second = third in
+    let first = second in
+    let g = first.before.before.before.before.before.before.before in
     let s = start g in
-    rw (count_asked s.pre.1 g.get-number.ensures s.args.maximum first.if1.false second.if2.false third.if3.false) d.make-count.ensures
+    rw (count_asked s.requires.1 g.get_number-tag.ensures s.args.maximum first.if-tag-eq-EDIT.false second.if-tag-eq-SIZE.false third.if-tag-eq-RANGE.false) d.make_count.ensures
 
 pub make_spec : {M : Type 1} → statement M
-make_spec =
-    tie.close
-    (tie.spec
-    get-number-requires
-    add_start
-    make-edit-requires
-    same_length
-    returns
-    make-size-requires
-    same_length_2
-    returns_2
-    make-range-requires
-    same_length_3
-    returns_3
-    make-count-requires
-    same_length_4
-    returns-4)
+make_spec = tie.close (tie.spec get-number-requires add_start make-edit-requires same_length returns make-size-requires same_length_2 returns_2 make-range-requires same_length_3 returns_3 make-count-requires same_length_4 returns-4)

@@ -15,73 +15,58 @@ use Rattle.replay_call.specs.ReadLaws.{FilledTo, found_to, fill_begins, fill_par
 use Rattle.replay_call.proofs.pointings_at.Statement.{statement}
 use Rattle.replay_call.proofs.pointings_at.Tie as tie
 
-abbrev invariant-loop : tie.invariant-loop
+abbrev invariant-loop : tie.invariant-loop-i
 invariant-loop src at n out₀ next₀ i₀ out next i = FilledTo (part_takes number_long 1) pointer_form.read pointing_record blank_pointing src at max_pointers n out next i
 
-abbrev decreases-loop : tie.decreases-loop
+abbrev decreases-loop : tie.decreases-loop-i
 decreases-loop src at n out₀ next₀ i₀ out next i = n - i
 
-blank-key-requires : tie.Need-blank-key-requires invariant-loop decreases-loop
+blank-key-requires : tie.Need-blank_key-blank-requires invariant-loop decreases-loop
 blank-key-requires c κs = search rules
 
-loop-holds : tie.Need-loop-init invariant-loop decreases-loop
+loop-holds : tie.Need-loop-i-init invariant-loop decreases-loop
 unfolding blank_pointing
 loop-holds c =
-    let h = c.before.before.requires in
-    fill_begins pointer_measured pointing_record h.0 h.1 (ap (λ (k : Key). record { level = 0; key = k }) c.blank_key_lem.ensures)
+    let h = c.requires in
+    fill_begins pointer_measured pointing_record h.0 h.1 (ap (λ (k : Key). record { level = 0; key = k }) c.blank_key-blank.ensures)
 
 -- a pointer begins where the loop is
-part : (c : tie.In-loop invariant-loop decreases-loop) → Begins (part_takes number_long 1) c.before.before.before.before.args.src.now c.before.loop.next
-part c = fill_part pointer_measured pointing_record c.before.loop.invariant (omega arith)
+part : (c : tie.In-loop-i invariant-loop decreases-loop) → Begins (part_takes number_long 1) c.args.src.now c.loop-i.next
+part c = fill_part pointer_measured pointing_record c.loop-i.invariant (omega arith)
 
-get-number-requires : tie.Need-get-number-requires invariant-loop decreases-loop
+get-number-requires : tie.Need-get_number-level-requires invariant-loop decreases-loop
 get-number-requires c κs = ((part c).within, omega arith)
 
-add-key-at : tie.Need-overflow-add-key-at invariant-loop decreases-loop
+add-key-at : tie.Need-overflow_add-next invariant-loop decreases-loop
 add-key-at c = let h = part_within number_long 1 (part c.before) in omega arith
 
-key-at-requires : tie.Need-key-at-requires invariant-loop decreases-loop
+key-at-requires : tie.Need-key_at-k-requires invariant-loop decreases-loop
 key-at-requires c κs = pointer_key (part c.before)
 
-mul-out : tie.Need-overflow-mul-out invariant-loop decreases-loop
+mul-out : tie.Need-offset_bounds-out-i invariant-loop decreases-loop
 mul-out c = omega arith
 
-array-set-from-out : tie.Need-array-set-from-out invariant-loop decreases-loop
+array-set-from-out : tie.Need-bounds-out-i invariant-loop decreases-loop
 array-set-from-out c = omega arith
 
-add-i : tie.Need-overflow-add-i invariant-loop decreases-loop
+add-i : tie.Need-overflow_add-i invariant-loop decreases-loop
 add-i c = omega arith
 
-loop-less : tie.Need-loop-smaller invariant-loop decreases-loop
+loop-less : tie.Need-loop-i-smaller invariant-loop decreases-loop
 loop-less c = omega arith
 
-loop-again : tie.Need-loop-preserved invariant-loop decreases-loop
+loop-again : tie.Need-loop-i-preserved invariant-loop decreases-loop
 unfolding pointing_record
 loop-again c =
-    let k = c.before.key-at.ensures in
-    let g = c.before.before in
-    let b = part g.before in
-    let level = g.get-number.ensures in
+    let k = c.key_at-k.ensures in
+    let g = c in
+    let b = part g.before.before.before in
+    let level = g.get_number-level.ensures in
     let key = k.0 in
-    fill_turn pointer_measured pointing_record g.before.before.loop.invariant (omega arith) (found_to (sym k.1) (pointer_found b)) (k.1 ∙ sym (pointer_end b)) (λ i. record { level = level i; key = key i })
+    fill_turn pointer_measured pointing_record g.loop-i.invariant (omega arith) (found_to (sym k.1) (pointer_found b)) (k.1 ∙ sym (pointer_end b)) (λ i. record { level = level i; key = key i })
 
 returns : tie.Need-returns invariant-loop decreases-loop
-returns c = fill_over pointer_measured pointing_record c.before.loop.invariant (omega arith)
+returns c = fill_over pointer_measured pointing_record c.loop-i.invariant (omega arith)
 
 pub pointings_at_spec : {M : Type 1} → statement M
-pointings_at_spec =
-    tie.close
-    (tie.spec
-    invariant-loop
-    decreases-loop
-    blank-key-requires
-    loop-holds
-    get-number-requires
-    add-key-at
-    key-at-requires
-    mul-out
-    array-set-from-out
-    add-i
-    loop-less
-    loop-again
-    returns)
+pointings_at_spec = tie.close (tie.spec invariant-loop decreases-loop blank-key-requires loop-holds get-number-requires add-key-at key-at-requires mul-out array-set-from-out add-i loop-less loop-again returns)
