@@ -1,6 +1,5 @@
 // The text of an answer that a record keeps, from its bytes: what the shell answers to such a call, with `_` for each blank.
-ghost use Prim.Native.Nat.{◌≤◌};
-ghost use lib.ListN.{length};
+ghost use Rattle.std.specs.Prelude.{◌≤◌, length};
 
 use keys::{Key, Word};
 use replay_form::Record;
