@@ -16,6 +16,7 @@ use pick_answer::Picked;
 use records::Version;
 use snapshot_parts::Snapshot;
 use snapshot_write::Written;
+use std::env::Env;
 use store::{Store, Stored};
 
 // A size of files by which no work is due.

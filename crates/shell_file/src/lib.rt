@@ -5,12 +5,11 @@ ghost use Rattle.shell_file.specs.Opening.{Left};
 
 use snapshot_parts::Snapshot;
 use snapshot_write::Written;
-use std::fs;
 use std::fs::{File, OpenFile, OpenOptions};
 use std::io::{ErrorKind, Read, Write};
 use std::os::unix::fs::OpenOptionsExt;
 use std::rt::Files;
-use std::str;
+use std::{fs, str};
 use store::Store;
 
 // A store, and where the answer of the command ends that left it.
@@ -75,7 +74,7 @@ fn lay_name(room: &mut [u8], name: &[u8], tried: u32) -> usize
     script_lines::within(room, at)
 }
 
-// Writes bytes to an open file, waits until they are on its device, and closes it. Whether all of that was done.
+// Writes bytes to an open file, and waits until they are on its device. Whether both were done. The file is closed then.
 fn fill<F: Write + OpenFile + Drop>(file: F, bytes: &[u8]) -> bool {
     let mut file = file;
     let written = file.write_all(bytes).is_ok();

@@ -197,7 +197,14 @@ fn settle(out: &mut [u8], m: Machine, line: &[u8], which: u8) -> Machine
 }
 
 // Answers a command that changes the machine.
-pub fn turn<R: Files>(rt: &R, out: &mut [u8], m: Machine, line: &[u8], group: u8, which: u8) -> Machine
+pub fn turn<R: Files>(
+    rt: &R,
+    out: &mut [u8],
+    m: Machine,
+    line: &[u8],
+    group: u8,
+    which: u8,
+) -> Machine
     ensures { result.at ≤ length out.new }
 {
     if group == b'm' {

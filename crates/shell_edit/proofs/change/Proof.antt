@@ -11,7 +11,7 @@ use borrow.Author.Rules.{rules}
 use Rattle.shell_edit.proofs.change.Statement.{statement}
 use Rattle.shell_edit.proofs.change.Tie as tie
 
-edit-of-requires : tie.Need-edit-of-requires
+edit-of-requires : tie.Need-edit_of-requires
 edit-of-requires c κs = search rules
 
 apply-requires : tie.Need-apply-requires
@@ -20,57 +20,42 @@ apply-requires c κs = search rules
 told-requires : tie.Need-told-requires
 told-requires c κs = search rules
 
-returns : tie.Need-returns
+returns : tie.Need-returns-then-which-eq101
 unfolding changed_by
 returns c =
-    let s = c.before.before.before.before.before.args.s in
-    rw (eq-eqb _ _ c.before.before.before.if1.true) (c.told.ensures ∙ ap told_by (c.before.apply.ensures ∙ ap (λ (e : Edit). stored s (on_store s (λ t. edits.edit full t (edit_of e)))) c.before.before.edit-of.ensures))
+    let s = c.args.s in
+    rw (eq-eqb _ _ c.if-which-eq101.true) (c.told.ensures ∙ ap told_by (c.apply.ensures ∙ ap (λ (e : Edit). stored s (on_store s (λ t. edits.edit full t (edit_of e)))) c.edit_of.ensures))
 
-new-file-number-requires : tie.Need-new-file-number-requires
+new-file-number-requires : tie.Need-new_file_number-requires
 new-file-number-requires c κs = search rules
 
 handed-requires : tie.Need-handed-requires
 handed-requires c κs = search rules
 
-returns_2 : tie.Need-returns-2
+returns_2 : tie.Need-returns-then-which-eq110
 unfolding changed_by
-returns_2 c = rw (ne_eqb _ _ c.before.before.before.if1.false, eq-eqb _ _ c.before.before.if2.true) (c.handed.ensures ∙ ap handed_by c.before.new-file-number.ensures)
+returns_2 c = rw (ne_eqb _ _ c.if-which-eq101.false, eq-eqb _ _ c.if-which-eq110.true) (c.handed.ensures ∙ ap handed_by c.new_file_number.ensures)
 
 load-requires : tie.Need-load-requires
 load-requires c κs = search rules
 
-returns_3 : tie.Need-returns-3
+returns_3 : tie.Need-returns-then-which-eq108
 unfolding changed_by
-returns_3 c = rw (ne_eqb _ _ c.before.before.before.if1.false, ne_eqb _ _ c.before.before.if2.false, eq-eqb _ _ c.before.if3.true) c.load.ensures
+returns_3 c = rw (ne_eqb _ _ c.if-which-eq101.false, ne_eqb _ _ c.if-which-eq110.false, eq-eqb _ _ c.if-which-eq108.true) c.load.ensures
 
-set-named-requires : tie.Need-set-named-requires
+set-named-requires : tie.Need-set_named-requires
 set-named-requires c κs = search rules
 
-returns-4 : tie.Need-returns-4
+returns-4 : tie.Need-returns-then-which-eq115
 unfolding changed_by
-returns-4 c = rw (ne_eqb _ _ c.before.before.before.before.if1.false, ne_eqb _ _ c.before.before.before.if2.false, ne_eqb _ _ c.before.before.if3.false, eq-eqb _ _ c.before.if4.true) c.set-named.ensures
+returns-4 c = rw (ne_eqb _ _ c.if-which-eq101.false, ne_eqb _ _ c.if-which-eq110.false, ne_eqb _ _ c.if-which-eq108.false, eq-eqb _ _ c.if-which-eq115.true) c.set_named.ensures
 
-count-named-requires : tie.Need-count-named-requires
+count-named-requires : tie.Need-count_named-requires
 count-named-requires c κs = search rules
 
-returns-5 : tie.Need-returns-5
+returns-5 : tie.Need-returns
 unfolding changed_by
-returns-5 c = rw (ne_eqb _ _ c.before.before.before.before.if1.false, ne_eqb _ _ c.before.before.before.if2.false, ne_eqb _ _ c.before.before.if3.false, ne_eqb _ _ c.before.if4.false) c.count-named.ensures
+returns-5 c = rw (ne_eqb _ _ c.if-which-eq101.false, ne_eqb _ _ c.if-which-eq110.false, ne_eqb _ _ c.if-which-eq108.false, ne_eqb _ _ c.if-which-eq115.false) c.count_named.ensures
 
 pub change_spec : {M : Type 1} → statement M
-change_spec =
-    tie.close
-    (tie.spec
-    edit-of-requires
-    apply-requires
-    told-requires
-    returns
-    new-file-number-requires
-    handed-requires
-    returns_2
-    load-requires
-    returns_3
-    set-named-requires
-    returns-4
-    count-named-requires
-    returns-5)
+change_spec = tie.close (tie.spec edit-of-requires apply-requires told-requires returns new-file-number-requires handed-requires returns_2 load-requires returns_3 set-named-requires returns-4 count-named-requires returns-5)

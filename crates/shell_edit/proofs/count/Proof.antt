@@ -6,21 +6,19 @@ use borrow.Author.Rules.{rules}
 use Rattle.shell_edit.proofs.count.Statement.{statement}
 use Rattle.shell_edit.proofs.count.Tie as tie
 
-reuse-file-number-requires : tie.Need-reuse-file-number-requires
+reuse-file-number-requires : tie.Need-reuse_file_number-requires
 reuse-file-number-requires c κs = search rules
 
-returns : tie.Need-returns
+returns : tie.Need-returns-then-which-eq114
 unfolding count_by
-returns c = rw (eq-eqb _ _ c.before.if1.true) c.reuse-file-number.ensures
+returns c = rw (eq-eqb _ _ c.if-which-eq114.true) c.reuse_file_number.ensures
 
-mark-file-number-used-requires : tie.Need-mark-file-number-used-requires
+mark-file-number-used-requires : tie.Need-mark_file_number_used-requires
 mark-file-number-used-requires c κs = search rules
 
-returns_2 : tie.Need-returns-2
+returns_2 : tie.Need-returns
 unfolding count_by
-returns_2 c = rw (ne_eqb _ _ c.before.if1.false) c.mark-file-number-used.ensures
+returns_2 c = rw (ne_eqb _ _ c.if-which-eq114.false) c.mark_file_number_used.ensures
 
 pub count_spec : {M : Type 1} → statement M
-count_spec =
-    tie.close
-    (tie.spec reuse-file-number-requires returns mark-file-number-used-requires returns_2)
+count_spec = tie.close (tie.spec reuse-file-number-requires returns mark-file-number-used-requires returns_2)

@@ -5,10 +5,10 @@ use borrow.Author.Rules.{rules}
 use Rattle.shell_edit.proofs.count_named.Statement.{statement}
 use Rattle.shell_edit.proofs.count_named.Tie as tie
 
-words-of-requires : tie.Need-words-of-requires
+words-of-requires : tie.Need-words_of-requires
 words-of-requires c κs = search rules
 
-number-requires : tie.Need-number-requires
+number-requires : tie.Need-number-n-requires
 number-requires c κs = search rules
 
 count-requires : tie.Need-count-requires
@@ -19,9 +19,8 @@ counted-requires c κs = search rules
 
 returns : tie.Need-returns
 returns c =
-    let s = c.before.before.before.before.before.args in
-    count_is s.s s.line.now s.which _ c.before.count.result c.counted.result (number_is s.line.now _ c.before.before.before.words_of.ensures 1 c.before.before.number.result c.before.before.number.ensures) c.before.count.ensures c.counted.ensures
+    let s = c.args in
+    count_is s.s s.line.now s.which _ c.count.result c.counted.result (number_is s.line.now _ c.words_of.ensures 1 c.number-n.result c.number-n.ensures) c.count.ensures c.counted.ensures
 
 pub count_named_spec : {M : Type 1} → statement M
-count_named_spec =
-    tie.close (tie.spec words-of-requires number-requires count-requires counted-requires returns)
+count_named_spec = tie.close (tie.spec words-of-requires number-requires count-requires counted-requires returns)

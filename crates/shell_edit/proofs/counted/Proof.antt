@@ -4,7 +4,7 @@ use borrow.Author.Rules.{rules}
 use Rattle.shell_edit.proofs.counted.Statement.{statement}
 use Rattle.shell_edit.proofs.counted.Tie as tie
 
-next-of-requires : tie.Need-next-of-requires
+next-of-requires : tie.Need-next_of-requires
 next-of-requires c κs = search rules
 
 returns : tie.Need-returns

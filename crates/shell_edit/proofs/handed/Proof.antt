@@ -4,7 +4,7 @@ use borrow.Author.Rules.{rules}
 use Rattle.shell_edit.proofs.handed.Statement.{statement}
 use Rattle.shell_edit.proofs.handed.Tie as tie
 
-number-of-requires : tie.Need-number-of-requires
+number-of-requires : tie.Need-number_of-requires
 number-of-requires c κs = search rules
 
 returns : tie.Need-returns

@@ -5,13 +5,13 @@ use borrow.Author.Rules.{rules}
 use Rattle.shell_edit.proofs.load.Statement.{statement}
 use Rattle.shell_edit.proofs.load.Tie as tie
 
-words-of-requires : tie.Need-words-of-requires
+words-of-requires : tie.Need-words_of-requires
 words-of-requires c κs = search rules
 
-run-of-requires : tie.Need-run-of-requires
+run-of-requires : tie.Need-run_of-bytes-requires
 run-of-requires c κs = search rules
 
-read-hex-requires : tie.Need-read-hex-requires
+read-hex-requires : tie.Need-read_hex-requires
 read-hex-requires c κs = search rules
 
 loaded-requires : tie.Need-loaded-requires
@@ -19,10 +19,8 @@ loaded-requires c κs = search rules
 
 returns : tie.Need-returns
 returns c =
-    let s = c.before.before.before.before.before.args in
-    load_is s.s s.line.now c.before.before.run_of.result c.before.read-hex.result c.loaded.result (run_is s.line.now _ c.before.before.before.words_of.ensures 1 _ c.before.before.run_of.ensures) c.before.read-hex.ensures c.loaded.ensures
+    let s = c.args in
+    load_is s.s s.line.now c.run_of-bytes.result c.read_hex.result c.loaded.result (run_is s.line.now _ c.words_of.ensures 1 _ c.run_of-bytes.ensures) c.read_hex.ensures c.loaded.ensures
 
 pub load_spec : {M : Type 1} → statement M
-load_spec =
-    tie.close
-    (tie.spec words-of-requires run-of-requires read-hex-requires loaded-requires returns)
+load_spec = tie.close (tie.spec words-of-requires run-of-requires read-hex-requires loaded-requires returns)

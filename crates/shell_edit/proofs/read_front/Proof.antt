@@ -8,13 +8,13 @@ use borrow.Author.Rules.{rules}
 use Rattle.shell_edit.proofs.read_front.Statement.{statement}
 use Rattle.shell_edit.proofs.read_front.Tie as tie
 
-sub_read : tie.Need-overflow-sub-read
+sub_read : tie.Need-slice_bounds-read-count
 sub_read c = search rules
 
-part-read-start : tie.Need-slice-bounds-read-start
+part-read-start : tie.Need-slice_bounds-read-start
 part-read-start c = search rules
 
-part-read-end : tie.Need-slice-bounds-read-end
+part-read-end : tie.Need-slice_bounds-read-end
 part-read-end c = search rules
 
 read-requires : tie.Need-read-requires
@@ -23,7 +23,7 @@ read-requires c κs = search rules
 returns : tie.Need-returns
 unfolding read_of
 returns c =
-    let s = c.before.before.before.args in
+    let s = c.args in
     let e : s.n - 0 ≡ s.n = omega arith in
     c.read.ensures ∙ ap (λ (k : ℕ). read_of (take k s.room.now)) e
 

@@ -4,7 +4,7 @@ use borrow.Author.Rules.{rules}
 use Rattle.shell_edit.proofs.told.Statement.{statement}
 use Rattle.shell_edit.proofs.told.Tie as tie
 
-said-of-requires : tie.Need-said-of-requires
+said-of-requires : tie.Need-said_of-requires
 said-of-requires c κs = search rules
 
 returns : tie.Need-returns

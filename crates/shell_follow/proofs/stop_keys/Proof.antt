@@ -6,63 +6,47 @@ use borrow.Author.Rules.{rules}
 use Rattle.shell_follow.proofs.stop_keys.Statement.{statement}
 use Rattle.shell_follow.proofs.stop_keys.Tie as tie
 
-abbrev invariant-loop : tie.invariant-loop
+abbrev invariant-loop : tie.invariant-loop-at
 invariant-loop out₀ c line n x₀ at₀ out x at = length out ≡ length out₀
 
-abbrev decreases-loop : tie.decreases-loop
+abbrev decreases-loop : tie.decreases-loop-at
 decreases-loop out₀ c line n x₀ at₀ out x at = n - at
 
-place-of-requires : tie.Need-place-of-requires invariant-loop decreases-loop
+place-of-requires : tie.Need-place_of-at-requires invariant-loop decreases-loop
 place-of-requires c κs = search rules
 
-loop-holds : tie.Need-loop-init invariant-loop decreases-loop
+loop-holds : tie.Need-loop-at-init invariant-loop decreases-loop
 loop-holds c = search rules
 
-add-from : tie.Need-overflow-add-from invariant-loop decreases-loop
+add-from : tie.Need-overflow_add-from invariant-loop decreases-loop
 add-from c = search rules
 
-place-of-requires-2 : tie.Need-place-of-requires-2 invariant-loop decreases-loop
+place-of-requires-2 : tie.Need-place_of-to-requires invariant-loop decreases-loop
 place-of-requires-2 c κs = search rules
 
-internal-key-requires : tie.Need-internal-key-requires invariant-loop decreases-loop
+internal-key-requires : tie.Need-internal_key-k-requires invariant-loop decreases-loop
 internal-key-requires c κs = search rules
 
-stop-before-requires : tie.Need-stop-before-requires invariant-loop decreases-loop
+stop-before-requires : tie.Need-stop_before-x-requires invariant-loop decreases-loop
 stop-before-requires c κs = search rules
 
-same_length : tie.Need-same-length invariant-loop decreases-loop
+same_length : tie.Need-shape_of-out-then-x invariant-loop decreases-loop
 same_length c = search rules
 
-returns : tie.Need-returns invariant-loop decreases-loop
+returns : tie.Need-returns-then-x invariant-loop decreases-loop
 returns c = search rules
 
-loop-less : tie.Need-loop-smaller invariant-loop decreases-loop
+loop-less : tie.Need-loop-at-smaller invariant-loop decreases-loop
 loop-less c = search rules
 
-loop-again : tie.Need-loop-preserved invariant-loop decreases-loop
+loop-again : tie.Need-loop-at-preserved invariant-loop decreases-loop
 loop-again c = search rules
 
-same_length_2 : tie.Need-same-length-2 invariant-loop decreases-loop
+same_length_2 : tie.Need-shape_of-out invariant-loop decreases-loop
 same_length_2 c = search rules
 
-returns_2 : tie.Need-returns-2 invariant-loop decreases-loop
+returns_2 : tie.Need-returns invariant-loop decreases-loop
 returns_2 c = search rules
 
 pub stop_keys_spec : {M : Type 1} → statement M
-stop_keys_spec =
-    tie.close
-    (tie.spec
-    invariant-loop
-    decreases-loop
-    place-of-requires
-    loop-holds
-    add-from
-    place-of-requires-2
-    internal-key-requires
-    stop-before-requires
-    same_length
-    returns
-    loop-less
-    loop-again
-    same_length_2
-    returns_2)
+stop_keys_spec = tie.close (tie.spec invariant-loop decreases-loop place-of-requires loop-holds add-from place-of-requires-2 internal-key-requires stop-before-requires same_length returns loop-less loop-again same_length_2 returns_2)
