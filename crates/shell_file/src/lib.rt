@@ -76,7 +76,7 @@ fn lay_name(room: &mut [u8], name: &[u8], tried: u32) -> usize
     script_lines::within(room, at)
 }
 
-// Writes bytes to an open file, waits until they are on its device, and closes it. Whether all of that was done.
+// Writes bytes to an open file, and waits until they are on its device. Whether both were done. The file is closed then.
 fn fill<F: Write + OpenFile + Drop>(file: F, bytes: &[u8]) -> bool {
     let mut file = file;
     let written = file.write_all(bytes).is_ok();

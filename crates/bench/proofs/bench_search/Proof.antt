@@ -4,31 +4,23 @@ use borrow.Author.Rules.{rules}
 use Rattle.bench.proofs.bench_search.Statement.{statement}
 use Rattle.bench.proofs.bench_search.Tie as tie
 
-filled-requires : tie.Need-filled-requires
+filled-requires : tie.Need-filled-s-requires
 filled-requires c κs = search rules
 
-level-two-requires : tie.Need-level-two-requires
+level-two-requires : tie.Need-level_two-l-requires
 level-two-requires c κs = search rules
 
-is-well-formed-requires : tie.Need-is-well-formed-requires
+is-well-formed-requires : tie.Need-is_well_formed-requires
 is-well-formed-requires c κs = search rules
 
-search-rounds-requires : tie.Need-search-rounds-requires
-search-rounds-requires c κs = sym c.before.is-well-formed.ensures ∙ c.if1.true
+search-rounds-requires : tie.Need-search_rounds-requires
+search-rounds-requires c κs = sym c.is_well_formed.ensures ∙ c.if-is_well_formed.true
 
-returns : tie.Need-returns
+returns : tie.Need-returns-then-is_well_formed
 returns c = search rules
 
-returns_2 : tie.Need-returns-2
+returns_2 : tie.Need-returns
 returns_2 c = search rules
 
 pub bench_search_spec : {M : Type 1} → statement M
-bench_search_spec =
-    tie.close
-    (tie.spec
-    filled-requires
-    level-two-requires
-    is-well-formed-requires
-    search-rounds-requires
-    returns
-    returns_2)
+bench_search_spec = tie.close (tie.spec filled-requires level-two-requires is-well-formed-requires search-rounds-requires returns returns_2)

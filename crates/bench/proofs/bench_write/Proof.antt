@@ -6,47 +6,35 @@ use native.Mathlib.Omega.{arith}
 use Rattle.bench.proofs.bench_write.Statement.{statement}
 use Rattle.bench.proofs.bench_write.Tie as tie
 
-abbrev invariant-loop : tie.invariant-loop
+abbrev invariant-loop : tie.invariant-loop-k
 invariant-loop files repeats s done₀ k₀ done k = (k ≤ repeats) × (done < 1000000000)
 
-abbrev decreases-loop : tie.decreases-loop
+abbrev decreases-loop : tie.decreases-loop-k
 decreases-loop files repeats s done₀ k₀ done k = repeats - k
 
-filled-requires : tie.Need-filled-requires invariant-loop decreases-loop
+filled-requires : tie.Need-filled-s-requires invariant-loop decreases-loop
 filled-requires c κs = search rules
 
-loop-holds : tie.Need-loop-init invariant-loop decreases-loop
+loop-holds : tie.Need-loop-k-init invariant-loop decreases-loop
 loop-holds c = search rules
 
-length-of-requires : tie.Need-length-of-requires invariant-loop decreases-loop
+length-of-requires : tie.Need-length_of-requires invariant-loop decreases-loop
 length-of-requires c κs = search rules
 
-add_done : tie.Need-overflow-add-done invariant-loop decreases-loop
+add_done : tie.Need-overflow_add-done invariant-loop decreases-loop
 add_done c = search rules
 
-add-k : tie.Need-overflow-add-k invariant-loop decreases-loop
+add-k : tie.Need-overflow_add-k invariant-loop decreases-loop
 add-k c = search rules
 
-loop-less : tie.Need-loop-smaller invariant-loop decreases-loop
+loop-less : tie.Need-loop-k-smaller invariant-loop decreases-loop
 loop-less c = search rules
 
-loop-again : tie.Need-loop-preserved invariant-loop decreases-loop
-loop-again c = ⊎_elim (λ w. (omega arith, omega arith)) (λ w. (omega arith, omega arith)) c.if1.branch
+loop-again : tie.Need-loop-k-preserved invariant-loop decreases-loop
+loop-again c = ⊎_elim (λ w. (omega arith, omega arith)) (λ w. (omega arith, omega arith)) c.if-length_of-ne0.branch-raw
 
 returns : tie.Need-returns invariant-loop decreases-loop
 returns c = search rules
 
 pub bench_write_spec : {M : Type 1} → statement M
-bench_write_spec =
-    tie.close
-    (tie.spec
-    invariant-loop
-    decreases-loop
-    filled-requires
-    loop-holds
-    length-of-requires
-    add_done
-    add-k
-    loop-less
-    loop-again
-    returns)
+bench_write_spec = tie.close (tie.spec invariant-loop decreases-loop filled-requires loop-holds length-of-requires add_done add-k loop-less loop-again returns)

@@ -6,12 +6,12 @@ use Rattle.history.specs.History.{called}
 use Rattle.history.proofs.after_edit.Statement.{statement}
 use Rattle.history.proofs.after_edit.Tie as tie
 
-apply-requires : tie.Need-apply-requires
+apply-requires : tie.Need-apply-a-requires
 apply-requires c κs = search rules
 
 returns : tie.Need-returns
 unfolding called
-returns c = ap (λ (a : Stored). a.store) c.before.apply.ensures
+returns c = ap (λ (a : Stored). a.store) c.apply-a.ensures
 
 pub after_edit_spec : {M : Type 1} → statement M
 after_edit_spec = tie.close (tie.spec apply-requires returns)

@@ -6,12 +6,12 @@ use Rattle.history.specs.History.{called}
 use Rattle.history.proofs.after_manual_pick.Statement.{statement}
 use Rattle.history.proofs.after_manual_pick.Tie as tie
 
-compact-range-requires : tie.Need-compact-range-requires
+compact-range-requires : tie.Need-compact_range-a-requires
 compact-range-requires c κs = search rules
 
 returns : tie.Need-returns
 unfolding called
-returns c = ap (λ (a : Pick). a.store) c.before.compact-range.ensures
+returns c = ap (λ (a : Pick). a.store) c.compact_range-a.ensures
 
 pub after_manual_pick_spec : {M : Type 1} → statement M
 after_manual_pick_spec = tie.close (tie.spec compact-range-requires returns)

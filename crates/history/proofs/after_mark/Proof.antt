@@ -6,12 +6,12 @@ use Rattle.history.specs.History.{called}
 use Rattle.history.proofs.after_mark.Statement.{statement}
 use Rattle.history.proofs.after_mark.Tie as tie
 
-mark-file-number-used-requires : tie.Need-mark-file-number-used-requires
+mark-file-number-used-requires : tie.Need-mark_file_number_used-a-requires
 mark-file-number-used-requires c κs = search rules
 
 returns : tie.Need-returns
 unfolding called
-returns c = ap (λ (a : Stored). a.store) c.before.mark-file-number-used.ensures
+returns c = ap (λ (a : Stored). a.store) c.mark_file_number_used-a.ensures
 
 pub after_mark_spec : {M : Type 1} → statement M
 after_mark_spec = tie.close (tie.spec mark-file-number-used-requires returns)

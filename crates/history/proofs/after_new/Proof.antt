@@ -6,12 +6,12 @@ use Rattle.history.specs.History.{called}
 use Rattle.history.proofs.after_new.Statement.{statement}
 use Rattle.history.proofs.after_new.Tie as tie
 
-new-file-number-requires : tie.Need-new-file-number-requires
+new-file-number-requires : tie.Need-new_file_number-a-requires
 new-file-number-requires c κs = search rules
 
 returns : tie.Need-returns
 unfolding called
-returns c = ap (λ (a : Handed). a.store) c.before.new-file-number.ensures
+returns c = ap (λ (a : Handed). a.store) c.new_file_number-a.ensures
 
 pub after_new_spec : {M : Type 1} → statement M
 after_new_spec = tie.close (tie.spec new-file-number-requires returns)
