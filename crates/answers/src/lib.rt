@@ -1,4 +1,5 @@
 // Answers by number: the names of the documents' refusals, and the answers of calls that return nothing else.
+#![tactic(auto)]
 
 // The numbers of the refusals in document 01's table, and of those that document 02 adds.
 #[derive(Clone, Copy)]

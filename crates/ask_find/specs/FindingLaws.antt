@@ -16,9 +16,9 @@ use Rattle.model.specs.Answer.{Answer, gives, refused, Refusal, ◌⇒◌, first
 use Rattle.model.specs.Key.{good_key}
 use Rattle.model.specs.File.{File, full, in_order, apart, level_count, max_files}
 use Rattle.model.specs.Pick.{good_level}
-use Rattle.model.specs.PickedLaws.{good_level_says}
+use Rattle.model.proofs.PickedLaws.{good_level_says}
 use Rattle.model.specs.Question.{find_index, passed}
-use Rattle.model.specs.QuestionLaws.{find_index_is}
+use Rattle.model.proofs.QuestionLaws.{find_index_is}
 use Rattle.model.specs.Calls.{lent_list, find_file_call}
 use Rattle.records.specs.Record.{file_of, blank, vacant, sound_record, is_blank}
 use Rattle.records.specs.RecordLaws.{vacant_blank}

@@ -13,9 +13,9 @@ use Rattle.lemmas.specs.Slices.{get_or_map}
 use Rattle.model.specs.Key.{before}
 use Rattle.model.specs.KeyLaws.{before_order}
 use Rattle.model.specs.File.{File, full, apart}
-use Rattle.model.specs.Formed.{good_file_order}
+use Rattle.model.proofs.Formed.{good_file_order}
 use Rattle.model.specs.Question.{passed}
-use Rattle.model.specs.QuestionLaws.{ends_rise}
+use Rattle.model.proofs.QuestionLaws.{ends_rise}
 use Rattle.records.specs.Record.{file_of, past}
 use Rattle.keys.specs.Key.{key_of}
 use Rattle.records.specs.RecordLaws.{run_turn, run_ended}

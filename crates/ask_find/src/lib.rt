@@ -1,4 +1,6 @@
 // Finds files in a list of one level that the caller lends: a thin search by halves over the slice, above forms by value and on numbers.
+#![tactic(auto)]
+
 ghost use Rattle.std.specs.Prelude.{◌≡◌, cond, map, ◌<◌, ◌≤◌, ltb, length, get_or, take};
 ghost use Rattle.std.proofs.Math.Option.{some, none};
 ghost use Rattle.model.specs.Answer.{gives};

@@ -19,7 +19,7 @@ use Rattle.model.specs.Answer.{Answer, gives, refused, Refusal, ◌⇒◌, first
 use Rattle.model.specs.Key.{user_before, user, good_key}
 use Rattle.model.specs.File.{File, full, numbers, level_count, max_files, max_word}
 use Rattle.model.specs.Question.{find_file, passed, holds, lookup, candidate}
-use Rattle.model.specs.QuestionLaws.{found_at, find_neither, find_index_is}
+use Rattle.model.proofs.QuestionLaws.{found_at, find_neither, find_index_is}
 use Rattle.model.specs.Calls.{lent_list, look_up}
 use Rattle.answers.specs.Outcome.{counted_of, filling}
 use Rattle.answers.specs.declared.Counted.{Counted}

@@ -1,4 +1,6 @@
 // Lookups in a list of one level that the caller lends: the files that may hold a key, found by the search of `ask_find`.
+#![tactic(auto)]
+
 ghost use Rattle.std.specs.Prelude.{◌≡◌, cond, [], ◌∷◌, map, ◌<◌, ◌≤◌, ltb, length, take};
 ghost use Rattle.lemmas.specs.Lists.{sort, keep};
 ghost use Rattle.lemmas.specs.Slices.{put};

@@ -8,9 +8,9 @@ use Rattle.lemmas.specs.ListLaws.{join_length, sub_length}
 use Rattle.model.specs.Answer.{gives, refused, Refusal, ◌⇒◌, first_of}
 use Rattle.model.specs.Calls as calls
 use Rattle.model.specs.File.{File, State, full, level, well_formed, level_count, max_files}
-use Rattle.model.specs.Formed.{formed_says}
+use Rattle.model.proofs.Formed.{formed_says}
 use Rattle.model.specs.Key.{good_key, good_user}
-use Rattle.model.specs.PickLaws.{overlapping_sub}
+use Rattle.model.proofs.PickLaws.{overlapping_sub}
 use Rattle.model.specs.Range.{Range, between, overlaps, overlapping}
 use Rattle.records.specs.Run.{run}
 use Rattle.records.specs.RecordLaws.{run_ended}

@@ -1,4 +1,6 @@
 // Questions of a level and a range: the files that overlap, and whether some file does.
+#![tactic(auto)]
+
 ghost use Rattle.std.specs.Prelude.{◌≡◌};
 ghost use Rattle.model.specs.Calls as calls;
 ghost use Rattle.model.specs.File.{full};

@@ -1,4 +1,6 @@
 // Questions of a store: the level of a memory table, live files.
+#![tactic(auto)]
+
 ghost use Rattle.std.specs.Prelude.{◌≡◌, true, length};
 ghost use Rattle.model.specs.Answer.{lent};
 ghost use Rattle.model.specs.File.{full};

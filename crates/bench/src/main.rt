@@ -1,5 +1,7 @@
 // bench OPERATION FILES REPEATS: does an operation so many times on a store of so many files, and prints how many were done. Operations: edit, form, write, read,
 // diff (each file differs), same (none does), pick, manual, overlap, lookup, base, cut; search, bases, advance do as lookup, base and cut with what was tested once.
+#![tactic(auto)]
+
 ghost use Rattle.std.specs.Prelude.{◌≡◌, true, ◌<◌, ◌≤◌};
 ghost use Rattle.level_list.specs.List.{well_list};
 ghost use Rattle.pick_answer.specs.Picked.{well_picked};

@@ -1,4 +1,6 @@
 // Calls made many times in a row on what is lent once, for timing: picks, each on the store that the one before has left, and searches in one list.
+#![tactic(auto)]
+
 ghost use Rattle.std.specs.Prelude.{◌≡◌, map, ◌+◌, ◌<◌, ◌≤◌, take};
 ghost use Rattle.model.specs.File.{max_files};
 ghost use Rattle.keys.specs.Key.{key_of};

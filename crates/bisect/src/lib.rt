@@ -1,4 +1,6 @@
 // A search by halves: the places that are left, their middle, and the half that is left once the middle is seen.
+#![tactic(auto)]
+
 ghost use Rattle.std.specs.Prelude.{◌≡◌, ◌<◌};
 ghost use Rattle.bisect.specs.Window.{mid_of, half_of};
 

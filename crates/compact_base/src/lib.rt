@@ -1,4 +1,6 @@
 // Base-level questions of a store: whether no file two levels below or deeper holds a user key. The memory is the last key asked.
+#![tactic(auto)]
+
 ghost use Rattle.std.specs.Prelude.{◌≡◌, true, not, ◌<◌};
 ghost use Rattle.std.proofs.Math.Option.{none};
 ghost use Rattle.model.specs.File.{full, level_count};

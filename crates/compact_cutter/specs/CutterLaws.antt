@@ -21,7 +21,7 @@ use Rattle.model.specs.Key as model_key
 use Rattle.model.specs.Key.{before, good_key}
 use Rattle.model.specs.File.{File, full, total, good_file, max_files, max_size, max_bytes}
 use Rattle.model.specs.Pick.{good_picked}
-use Rattle.model.specs.PickedLaws.{good_picked_says, cutter_keeps}
+use Rattle.model.proofs.PickedLaws.{good_picked_says, cutter_keeps}
 use Rattle.model.specs.Question as model
 use Rattle.model.specs.Question.{passed, cut_step}
 use Rattle.model.specs.Calls as calls

@@ -1,4 +1,6 @@
 // The cutter: tells where the output of a compaction is cut, by the bytes of the grandparents that its keys have passed.
+#![tactic(auto)]
+
 ghost use Rattle.std.specs.Prelude.{◌≡◌, true, ◌+◌, ◌≤◌};
 ghost use Rattle.model.specs.File.{max_word};
 ghost use Rattle.model.specs.Answer.{gives, refused};

@@ -1,4 +1,6 @@
 // Whether to stop before a key, on memory that the caller lends: a thin layer over the cutter's step by value.
+#![tactic(auto)]
+
 ghost use Rattle.std.specs.Prelude.{◌≡◌};
 ghost use Rattle.model.specs.Answer.{gives};
 ghost use Rattle.answers.specs.Outcome.{yes_no_of};

@@ -1,4 +1,6 @@
 // The deletions of a picked answer's inputs, into an edit or into lent columns.
+#![tactic(auto)]
+
 ghost use Rattle.std.specs.Prelude.{◌≡◌, true, map, ◌+◌, ◌≤◌, length, replicate};
 ghost use Rattle.lemmas.specs.Slices.{put};
 ghost use Rattle.model.specs.Answer.{refused};

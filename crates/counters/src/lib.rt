@@ -1,4 +1,6 @@
 // The five counters by value, and their bound.
+#![tactic(auto)]
+
 ghost use Rattle.std.specs.Prelude.{◌≡◌};
 ghost use Rattle.model.specs.File.{good_counters};
 ghost use Rattle.counters.specs.Counters.{counters_of};

@@ -6,8 +6,8 @@ use Rattle.model.specs.File.{State, full}
 use Rattle.model.specs.Snapshot.{encode}
 use Rattle.model.specs.Difference.{differences}
 use Rattle.model.specs.DifferenceBytes.{write_differences, longest_list, differing}
-use Rattle.model.specs.DifferenceLengthLaws.{list_most_bytes}
-use Rattle.model.specs.DifferingLaws.{snapshot_says, differing_left, differing_right, differing_short, differing_gives}
+use Rattle.model.proofs.DifferenceLengthLaws.{list_most_bytes}
+use Rattle.model.proofs.DifferingLaws.{snapshot_says, differing_left, differing_right, differing_short, differing_gives}
 use Rattle.snapshot_read.specs.Reading.{is_snapshot}
 use Rattle.snapshot_read.specs.ReadingLaws.{snapshot_read, snapshot_none}
 use Rattle.difference_scan.specs.Listing.{list_of}

@@ -1,4 +1,6 @@
 // Which files differ: two snapshots compared.
+#![tactic(auto)]
+
 ghost use Rattle.std.specs.Prelude.{◌≡◌, length};
 ghost use Rattle.model.specs.Answer.{lent};
 ghost use Rattle.model.specs.File.{full};

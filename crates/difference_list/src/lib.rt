@@ -1,4 +1,6 @@
 // The list of differences of two snapshots, made of their bytes: the files of each level, the pointers, the counters, each section after its count.
+#![tactic(auto)]
+
 ghost use Rattle.std.specs.Prelude.{◌≡◌, false, map, ◌+◌, ◌<◌, ◌≤◌, eqb, length, drop};
 ghost use Rattle.lemmas.specs.Lists.{join};
 ghost use Rattle.lemmas.specs.Slices.{put};

@@ -15,14 +15,14 @@ use Rattle.lemmas.specs.Maps.{map_same_in}
 use Rattle.lemmas.specs.Little.{number, bytes, bytes_length, bytes_number}
 use Rattle.lemmas.specs.Distinct.{same_test}
 use Rattle.model.specs.File.{File, State, full, level, key_room, level_count}
-use Rattle.model.specs.Formed.{WF}
+use Rattle.model.proofs.Formed.{WF}
 use Rattle.model.specs.Snapshot.{by_number, write_key, write_file, Entry, entries, write_entry, section, write_level, five_of, encode, same_bytes, byte_long, number_long, counter_count}
-use Rattle.model.specs.SnapshotLaws.{Storable, full_fits, storable}
-use Rattle.model.specs.Reading.{same_eq, eq_same}
+use Rattle.model.proofs.SnapshotLaws.{Storable, full_fits, storable}
+use Rattle.model.proofs.Reading.{same_eq, eq_same}
 use Rattle.model.specs.Difference.{Difference, only_left, only_right, changed, pointer_is, counter_is, same_contents, counter_at, counter_differences, differences}
 use Rattle.model.specs.DifferenceBytes.{right_kind, changed_kind, key_of, write_difference, write_differences}
-use Rattle.model.specs.DifferenceListedLaws.{same_file_lem, contents_own}
-use Rattle.model.specs.ComparedLaws.{compared_level, compared_levels, compared_pointers, written_compared}
+use Rattle.model.proofs.DifferenceListedLaws.{same_file_lem, contents_own}
+use Rattle.model.proofs.ComparedLaws.{compared_level, compared_levels, compared_pointers, written_compared}
 use Rattle.snapshot_parse.specs.Parsing.{file_in, entry_in}
 use Rattle.snapshot_parse.specs.BackLaws.{Fit, file_back, file_rest, entry_back, entry_rest, count_rest, encode_is, past_counters, entries_fit, files_fit}
 use Rattle.difference_scan.specs.Scan.{after_part, rise_long, head, tail}

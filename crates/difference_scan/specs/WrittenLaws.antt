@@ -11,7 +11,7 @@ use Rattle.lemmas.specs.Little.{number, bytes, bytes_length, bytes_number}
 use Rattle.lemmas.specs.Compare.{compare, compare_map}
 use Rattle.lemmas.specs.Distinct.{same_test}
 use Rattle.model.specs.Snapshot.{section, same_bytes, count_long}
-use Rattle.model.specs.Reading.{same_eq, eq_same}
+use Rattle.model.proofs.Reading.{same_eq, eq_same}
 use Rattle.model.specs.Difference.{Difference}
 use Rattle.model.specs.DifferenceBytes.{left_kind, right_kind, changed_kind, write_difference}
 use Rattle.snapshot_parse.specs.Parsing.{number_in}

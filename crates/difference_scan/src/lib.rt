@@ -1,4 +1,6 @@
 // The files of a level and the pointers as runs of bytes: where each ends, what a turn over two runs finds, and the entry that is written of it.
+#![tactic(auto)]
+
 ghost use Rattle.std.specs.Prelude.{◌≡◌, ◌+◌, ◌≤◌, length, drop};
 ghost use Rattle.lemmas.specs.Slices.{put};
 ghost use Rattle.lemmas.specs.Lists.{join};

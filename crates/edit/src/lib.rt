@@ -1,4 +1,6 @@
 // Edits by value: the empty edit, one entry more, another log number.
+#![tactic(auto)]
+
 ghost use Rattle.std.specs.Prelude.{◌≡◌};
 ghost use Rattle.edit.specs.Edit.{empty_record, one_more, with_deletion, with_addition, with_pointing, with_log};
 

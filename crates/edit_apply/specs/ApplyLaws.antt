@@ -9,9 +9,9 @@ use Rattle.model.specs.Answer.{Answer, gives, refused}
 use Rattle.model.specs.File.{File, State, full, level, by_smallest, apart, no_collision, levelwise}
 use Rattle.model.specs.Edit as model
 use Rattle.model.specs.Edit.{added, left_deleted, survivors, survivors_from, applied, edit}
-use Rattle.model.specs.EditLaws.{ties_with, Accepted, survivors_in, survivors_ordered, survivors_stable, survivors_from_at, survivors_from_length, edit_accepts}
-use Rattle.model.specs.Formed.{Words, formed_says, edit_keeps, empty_edit_lem}
-use Rattle.model.specs.PickedLaws.{levelwise_at}
+use Rattle.model.proofs.EditLaws.{ties_with, Accepted, survivors_in, survivors_ordered, survivors_stable, survivors_from_at, survivors_from_length, edit_accepts}
+use Rattle.model.proofs.Formed.{Words, formed_says, edit_keeps, empty_edit_lem}
+use Rattle.model.proofs.PickedLaws.{levelwise_at}
 use Rattle.answers.specs.Outcome.{outcome_of}
 use Rattle.answers.specs.declared.Outcome.TheVariants.{Done, Refused}
 use Rattle.store.specs.Store.{state_of, store_of, sound_store, well_store, on_store, leaves, stored, StoreShape}

@@ -1,4 +1,6 @@
 // One edit on one store. It is accepted exactly if no refusal applies, and then leaves exactly the files, pointers and log number that it names.
+#![tactic(auto)]
+
 ghost use Rattle.std.specs.Prelude.{◌≡◌, true, ◌+◌, ◌≤◌, take};
 ghost use Rattle.lemmas.specs.Lists.{sum};
 ghost use Rattle.model.specs.File.{full, max_files, max_pointers};

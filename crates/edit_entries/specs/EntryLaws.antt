@@ -17,7 +17,7 @@ use Rattle.model.specs.File.{full, good_file, max_size}
 use Rattle.model.specs.File as model_file
 use Rattle.model.specs.Edit as model
 use Rattle.model.specs.Edit.{too_many, bad_log, pointer_refusals, deletion_refusals, addition_refusals, entry_refusals}
-use Rattle.model.specs.EditLaws.{AdditionFits, pointers_fit, deletions_fit, additions_fit}
+use Rattle.model.proofs.EditLaws.{AdditionFits, pointers_fit, deletions_fit, additions_fit}
 use Rattle.answers.specs.Outcome.{passed}
 use Rattle.answers.specs.OutcomeLaws.{passed_nil, passed_here, passed_later, passed_refused, passed_done, passed_none}
 use Rattle.answers.specs.declared.Outcome.{Outcome}

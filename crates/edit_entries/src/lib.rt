@@ -1,4 +1,6 @@
 // The tests of an edit's entries, before anything is built: too many of them, the log number, then each pointer, deletion and addition in turn.
+#![tactic(auto)]
+
 ghost use Rattle.std.specs.Prelude.{◌≡◌, false, [], ◌∷◌, map, ◌++◌, ◌≤◌, take};
 ghost use Rattle.model.specs.File.{full, max_additions, max_deletions, max_pointers};
 ghost use Rattle.model.specs.Edit as model;

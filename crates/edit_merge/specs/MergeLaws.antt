@@ -18,8 +18,8 @@ use Rattle.lemmas.specs.Merge.{merge, merge_first, merge_second, merge_nil, merg
 use Rattle.model.specs.Key.{before}
 use Rattle.model.specs.File.{File, full, by_smallest, in_order, levelwise}
 use Rattle.model.specs.Edit.{Addition, Edit, added, left_deleted, survivors, survivors_from}
-use Rattle.model.specs.Formed.{levels_sorted}
-use Rattle.model.specs.PickedLaws.{sub_ordered}
+use Rattle.model.proofs.Formed.{levels_sorted}
+use Rattle.model.proofs.PickedLaws.{sub_ordered}
 use Rattle.records.specs.declared.FileRecord.{FileRecord}
 use Rattle.records.specs.Record.{file_of}
 use Rattle.edit_stayers.specs.Stayers.{stayers_by, stayers_from}

@@ -1,4 +1,6 @@
 // One merge of stayers and added files, by places, so that each record is copied once.
+#![tactic(auto)]
+
 ghost use Rattle.std.specs.Prelude.{◌≡◌, true, ◌+◌, ◌≤◌};
 ghost use Rattle.lemmas.specs.Lists.{sum};
 ghost use Rattle.lemmas.specs.Slices.{parts};

@@ -19,7 +19,7 @@ use Rattle.model.specs.Key.{before}
 use Rattle.model.specs.File.{File, full, numbers, good_file, in_order, no_collision, levelwise, level_count, max_files}
 use Rattle.model.specs.Edit as model
 use Rattle.model.specs.Edit.{survivors_from}
-use Rattle.model.specs.Formed.{good_file_order}
+use Rattle.model.proofs.Formed.{good_file_order}
 use Rattle.records.specs.Record.{file_of, record_of, blank, vacant, sound_record, is_blank, past, AllShaped}
 use Rattle.records.specs.RecordLaws.{vacant_blank, files_of_records, records_well, well_list_lem}
 use Rattle.records.specs.declared.FileRecord.{FileRecord}

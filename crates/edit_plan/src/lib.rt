@@ -1,4 +1,6 @@
 // The plan of an edit: the places of the stayers, the order of the additions, and whether 6 or 8 applies.
+#![tactic(auto)]
+
 ghost use Rattle.std.specs.Prelude.{◌≡◌, true, [], ◌∷◌, map, ◌+◌, ◌≤◌, ltb, length, take};
 ghost use Rattle.lemmas.specs.Lists.{distinct, join, sum};
 ghost use Rattle.lemmas.specs.Slices.{put};

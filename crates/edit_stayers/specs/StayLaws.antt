@@ -13,7 +13,7 @@ use Rattle.lemmas.specs.Maps.{any_map, any_keep, keep_map, keep_same}
 use Rattle.model.specs.Key.{before}
 use Rattle.model.specs.File.{File, numbers, by_smallest, in_order, levelwise}
 use Rattle.model.specs.Edit.{Deletion, Addition, Edit, added, deletes, adds, left_deleted, survivors, survivors_from}
-use Rattle.model.specs.PickedLaws.{sub_ordered, sub_distinct}
+use Rattle.model.proofs.PickedLaws.{sub_ordered, sub_distinct}
 use Rattle.records.specs.Record.{file_of}
 use Rattle.records.specs.declared.FileRecord.{FileRecord}
 use Rattle.edit_stayers.specs.Stayers.{has_pair, stays_by, stayers_by, stayers_from}

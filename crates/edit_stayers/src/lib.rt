@@ -1,5 +1,7 @@
 // The stayers of each level, as places, so that no record is copied. Also the numbers at these places, and whether a number stands twice among them and the added
 // files.
+#![tactic(auto)]
+
 ghost use Rattle.std.specs.Prelude.{◌≡◌, true, not, ◌++◌, map, ◌≤◌, length, replicate};
 ghost use Rattle.lemmas.specs.Lists.{distinct, sum};
 ghost use Rattle.lemmas.specs.Slices.{put};

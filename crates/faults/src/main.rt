@@ -1,5 +1,7 @@
 // faults: reads a table on standard input that sets raw numbers, keys and records, sound or not, and asks calls of them. Prints one line for each question: its count, the answer, and
 // after a semicolon what the call left: lent output, memory, the store's counts. crates/faults/stdin begins with the lines that a table may have.
+#![tactic(auto)]
+
 use answers::{Counted, Outcome, YesNo};
 use ask_find::Found;
 use ask_store::Leveled;

@@ -20,14 +20,14 @@ use Rattle.model.specs.Counters.{CounterCall, new, reuse, mark, last, manifest, 
 use Rattle.model.specs.CounterLaws.{new_is}
 use Rattle.model.specs.Calls as calls
 use Rattle.model.specs.Pick.{Pick, size_pick, manual_pick}
-use Rattle.model.specs.PickLaws.{size_keeps, range_keeps}
+use Rattle.model.proofs.PickLaws.{size_keeps, range_keeps}
 use Rattle.model.specs.History.{kept, kept_pick, after, run, Event, events, Stays, pointer_left, counters_left, SameLeft}
-use Rattle.model.specs.HistoryLaws.{fresh_stays, run_counters, run_pointers}
-use Rattle.model.specs.Formed.{WF, formed_says, Words, edit_keeps, count_keeps}
+use Rattle.model.proofs.HistoryLaws.{fresh_stays, run_counters, run_pointers}
+use Rattle.model.proofs.Formed.{WF, formed_says, Words, edit_keeps, count_keeps}
 use Rattle.model.specs.Snapshot.{by_number, encode, decode, longest_snapshot}
-use Rattle.model.specs.SnapshotLaws.{full_fits}
-use Rattle.model.specs.Demand3.{WordCalls, fresh_formed, demand_3}
-use Rattle.model.specs.Reading.{in_read_order, as_read, decode_sound, decode_encode}
+use Rattle.model.proofs.SnapshotLaws.{full_fits}
+use Rattle.model.proofs.Demand3.{WordCalls, fresh_formed, demand_3}
+use Rattle.model.proofs.Reading.{in_read_order, as_read, decode_sound, decode_encode}
 use Rattle.answers.specs.Outcome.{outcome_of}
 use Rattle.answers.specs.declared.Outcome.TheVariants.{Done}
 use Rattle.edit.specs.declared.Addition.{Addition}

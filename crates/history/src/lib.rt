@@ -1,4 +1,6 @@
 // The store after each call. These functions show that the definition of histories uses the calls as the code has them.
+#![tactic(auto)]
+
 ghost use Rattle.std.specs.Prelude.{◌≡◌};
 ghost use Rattle.history.specs.History as history;
 ghost use Rattle.history.specs.History.{called, pick_size, pick_range, new_number, reuse_number, mark_number, set_last, set_manifest, set_previous};

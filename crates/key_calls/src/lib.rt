@@ -1,4 +1,6 @@
 // The public calls on internal keys: compare and take apart, with refusals. Both answer for every record, also where the length is beyond the room.
+#![tactic(auto)]
+
 ghost use Rattle.std.specs.Prelude.{◌≡◌};
 ghost use Rattle.model.specs.Calls.{compare_keys, parse_key};
 ghost use Rattle.model.specs.File.{full};

@@ -1,4 +1,6 @@
 // Internal keys, user keys and the two kinds of numbers, by value. Every function answers for every record, also where the length is beyond the room.
+#![tactic(auto)]
+
 ghost use Rattle.std.specs.Prelude.{◌≡◌, cond, ◌&&◌, [], leb, ◌-◌, ◌%◌, ◌≤◌, length, take};
 ghost use Rattle.lemmas.specs.Lists.{all};
 ghost use Rattle.model.specs.Key as model;

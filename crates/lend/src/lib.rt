@@ -1,4 +1,6 @@
 // What programs have by value, lent to the calls that take a slice or a reference.
+#![tactic(auto)]
+
 ghost use Rattle.std.specs.Prelude.{◌≡◌, ◌≤◌, length, take};
 ghost use Rattle.model.specs.Answer.{lent};
 ghost use Rattle.model.specs.File.{full, max_files};

@@ -17,7 +17,7 @@ use Rattle.model.specs.Answer.{Answer, gives, refused, Refusal, ◌⇒◌, first
 use Rattle.model.specs.File.{File, full, level, total, in_order, levelwise, good_file, good_files, level_count, max_files, max_word}
 use Rattle.model.specs.Range.{low_key, high_key}
 use Rattle.model.specs.Pick.{good_level}
-use Rattle.model.specs.PickedLaws.{good_level_says}
+use Rattle.model.proofs.PickedLaws.{good_level_says}
 use Rattle.model.specs.Calls as calls
 use Rattle.model.specs.Calls.{lent_list, total_size, get_range}
 use Rattle.answers.specs.Outcome.{outcome_of}

@@ -1,4 +1,6 @@
 // Lists of one level by value: a level of a store, whether a list is well-formed, its bytes and its range.
+#![tactic(auto)]
+
 ghost use Rattle.std.specs.Prelude.{◌≡◌, true, ◌≤◌};
 ghost use Rattle.std.proofs.Math.Seq.{slice};
 ghost use Rattle.lemmas.specs.Lists.{all};

@@ -18,7 +18,7 @@ use Rattle.lemmas.specs.Maps.{join_map, lengths_map, all_join}
 use Rattle.lemmas.specs.Each.{Each, each_take, each_drop, each_put, each_replicate}
 use Rattle.model.specs.Key.{before}
 use Rattle.model.specs.File.{File, full, by_smallest, in_order, levelwise, good_file, good_files, numbers, total, max_size, level_count, max_files}
-use Rattle.model.specs.SnapshotLaws.{file_facts}
+use Rattle.model.proofs.SnapshotLaws.{file_facts}
 use Rattle.records.specs.Record.{file_of, record_of, blank, vacant, sound_record, well_record, is_blank, past, Shaped, AllShaped}
 use Rattle.records.specs.RecordLaws.{AllWords, sound_list_lem, blank_list, vacant_blank, blank_shaped, well_list_lem, well_list_is, files_of_records, records_well, records_shaped, column_run}
 use Rattle.records.specs.RecordLaws.{well_says as record_says}

@@ -1,4 +1,6 @@
 // Levels one after another in one array of file records, and whether they are well-formed.
+#![tactic(auto)]
+
 ghost use Rattle.std.specs.Prelude.{◌≡◌, ◌+◌, ◌≤◌, min, take};
 ghost use Rattle.lemmas.specs.Lists.{sum};
 ghost use Rattle.model.specs.File.{level_count, max_files};

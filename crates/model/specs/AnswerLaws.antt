@@ -10,9 +10,7 @@ use mathlib.Core.List.{List, [], ◌∷◌, ◌++◌, Memᴰ as In}
 use Rattle.std.proofs.Math.ListN.{length-append, length-drop}
 use Rattle.std.proofs.Math.Seq.{drop-append_seam, take-append_seam}
 use Rattle.lemmas.specs.Order.{clash}
-use Rattle.model.specs.Key.{before}
 use Rattle.model.specs.Answer.{Answer, gives, refused, Refusal, ◌⇒◌, first_of, on_answer, lent}
-use Rattle.model.specs.Range.{later}
 
 -- no refusal of the list applies
 abbrev pub NoneApplies : List Refusal → Type 0

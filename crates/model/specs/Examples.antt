@@ -7,7 +7,7 @@ use Rattle.lemmas.specs.Lists.{push, keep, any, all, find, insert, sort, chain, 
 use Rattle.lemmas.specs.Little.{number, bytes}
 use Rattle.model.specs.Key.{Key, user, trailer, sequence, kind, key, good_user, good_key, parts, user_before, rank, before, is_less, is_equal, is_greater, stands}
 use Rattle.model.specs.Answer.{gives, refused, ◌⇒◌, first_of, on_answer, lent}
-use Rattle.model.specs.File.{Profile, full, File, State, level, pointer, seeks, total, numbers, all_files, by_smallest, max_counter, max_size, good_file, in_order, no_collision, levelwise, good_pointer, good_counters, good_files, well_formed, fresh, set_pointer, set_counters}
+use Rattle.model.specs.File.{Profile, full, File, State, level, pointer, seeks, total, numbers, all_files, by_smallest, good_file, in_order, no_collision, levelwise, good_pointer, good_counters, good_files, well_formed, fresh, set_pointer, set_counters}
 use Rattle.model.specs.Edit.{Deletion, Addition, Edit, empty_edit, added, deletes, adds, left_deleted, survivors, survivors_from, pointed, logged, applied, too_many, bad_log, pointer_refusals, deletion_refusals, addition_refusals, entry_refusals, result_refusals, edit}
 use Rattle.model.specs.Counters.{counted, counter_beyond, counter}
 use Rattle.model.specs.Score.{lower, byte_limit, score, scored, has_greatest, level_to_compact, due, reported}

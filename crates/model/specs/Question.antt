@@ -3,7 +3,6 @@ use Rattle.std.specs.Prelude.{ℕ, zero, suc, ◌+◌, ◌*◌, ◌-◌, Bool, c
 use mathlib.Core.List.{List, [], ◌∷◌, Option-to_list}
 use Rattle.std.proofs.Math.Option.{Option, none, some, map}
 use Rattle.lemmas.specs.Lists.{keep, any, all, find, sort, up_from}
-use Rattle.lemmas.specs.Little.{bytes}
 use Rattle.model.specs.Key.{Key, user, user_before, before}
 use Rattle.model.specs.File.{Profile, File, State, level, total, numbers, all_files}
 use Rattle.model.specs.Range.{Range, overlaps}

@@ -9,7 +9,7 @@ use Rattle.lemmas.specs.Lists.{join}
 use Rattle.lemmas.specs.ListLaws.{all_in, map_same}
 use Rattle.lemmas.specs.Little.{bytes}
 use Rattle.model.specs.Snapshot.{count_long, number_long, Read, Reader, ◌>>=◌, give, times}
-use Rattle.model.specs.Reading.{Reads, reads_times}
+use Rattle.model.proofs.Reading.{Reads, reads_times}
 use Rattle.model_replay.specs.Given.{Given}
 use Rattle.model_replay.specs.Form.{Form, num, got, pair, shaped, many, only}
 use Rattle.model_replay.specs.FormExactLaws.{bind_says, got_says, Exact}

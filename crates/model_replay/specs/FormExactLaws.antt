@@ -14,7 +14,7 @@ use Rattle.lemmas.specs.Little.{number, bytes, number_bound}
 use Rattle.model.specs.Key.{Key}
 use Rattle.model.specs.File.{File}
 use Rattle.model.specs.Snapshot.{write_key, write_file, Read, Reader, onward, ◌>>=◌, give, times, read_bytes, read_number, read_key, read_file, same_bytes}
-use Rattle.model.specs.Reading.{same_eq, eq_same}
+use Rattle.model.proofs.Reading.{same_eq, eq_same}
 use Rattle.model_replay.specs.Form.{Form, num, key_form, file_form, got, pair, shaped, many, unread, guarded, only, tagged, tag, taken, parsed}
 
 -- ---- bytes, generic

@@ -9,7 +9,7 @@ use Rattle.lemmas.specs.Lists.{all, join}
 use Rattle.lemmas.specs.ListLaws.{and_left, and_right, all_in, map_same}
 use Rattle.lemmas.specs.Little.{bytes}
 use Rattle.model.specs.Snapshot.{Read, Reader, give, times, read_number, same_bytes}
-use Rattle.model.specs.Reading.{same_eq, eq_same, Reads, then, gives_it, reads_as, reads_number, reads_key, reads_file, reads_times}
+use Rattle.model.proofs.Reading.{same_eq, eq_same, Reads, then, gives_it, reads_as, reads_number, reads_key, reads_file, reads_times}
 use Rattle.model_replay.specs.Form.{Form, num, key_form, file_form, got, pair, shaped, many, unread, guarded, only, tagged, tag, taken, parsed}
 
 -- what fits and is written reads back, and what follows is left

@@ -9,7 +9,7 @@ use Rattle.model.specs.File.{Profile, State, well_formed, set_counters}
 use Rattle.model.specs.Counters.{new, counted, counter_beyond, counter}
 use Rattle.model.specs.Calls.{Handed, new_number}
 use Rattle.model.specs.Snapshot.{same_bytes}
-use Rattle.model.specs.Reading.{same_eq, eq_same}
+use Rattle.model.proofs.Reading.{same_eq, eq_same}
 use Rattle.model.specs.History.{Call, counts, after, run}
 use Rattle.model_replay.specs.Given.{Why, scored, by_hand, Said, accepted, handed, picked, Given, count_says, given, answers, same_list, same_file, same_why, same_choice, same_said, same_given}
 

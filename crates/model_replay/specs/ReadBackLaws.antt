@@ -15,11 +15,11 @@ use Rattle.model.specs.Key.{before}
 use Rattle.model.specs.KeyLaws.{SameInOrder, before_same, same_before}
 use Rattle.model.specs.File.{Profile, File, State, level, numbers, by_smallest, in_order, levelwise}
 use Rattle.model.specs.Snapshot.{by_number, encode, decode}
-use Rattle.model.specs.EditLaws.{by_smallest_order}
-use Rattle.model.specs.Formed.{WF, good_file_order, numbers_append}
-use Rattle.model.specs.SnapshotLaws.{Fits}
+use Rattle.model.proofs.EditLaws.{by_smallest_order}
+use Rattle.model.proofs.Formed.{WF, good_file_order, numbers_append}
+use Rattle.model.proofs.SnapshotLaws.{Fits}
 use Rattle.model.specs.ByNumber.{sorted_one, sort_distinct}
-use Rattle.model.specs.Reading.{in_read_order, as_read, apart_as_read, decode_encode}
+use Rattle.model.proofs.Reading.{in_read_order, as_read, apart_as_read, decode_encode}
 use Rattle.model_replay.specs.Replay.{no_ties, cuttable}
 
 -- neither of two tests

@@ -28,11 +28,11 @@ use Rattle.model.specs.Score.{Score, score, level_to_compact, reported}
 use Rattle.model.specs.Pick.{Picked, Pick, complete, bad_maximum, size_pick, manual_pick}
 use Rattle.model.specs.Snapshot.{five_of}
 use Rattle.model.specs.History.{Call, edits, picks_size, picks_range, counts, after, run}
-use Rattle.model.specs.Formed.{WF}
-use Rattle.model.specs.PickLaws.{size_accepted, range_accepted}
-use Rattle.model.specs.PickedLaws.{GoodLevel, good_level_says, GoodPicked, good_picked_says, size_good, range_good}
-use Rattle.model.specs.SnapshotLaws.{Fits, file_facts}
-use Rattle.model.specs.Demand3.{run_formed}
+use Rattle.model.proofs.Formed.{WF}
+use Rattle.model.proofs.PickLaws.{size_accepted, range_accepted}
+use Rattle.model.proofs.PickedLaws.{GoodLevel, good_level_says, GoodPicked, good_picked_says, size_good, range_good}
+use Rattle.model.proofs.SnapshotLaws.{Fits, file_facts}
+use Rattle.model.proofs.Demand3.{run_formed}
 use Rattle.model_replay.specs.Given.{scored, accepted, picked, why_of, choice_of, count_says, given}
 use Rattle.model_replay.specs.Form.{Form, num, file_form, pair, shaped, many}
 use Rattle.model_replay.specs.Recording.{Asked, asks_edit, Recorded, call_of, trimmed, pointer_form, deletion_form, addition_form, log_form, edit_form, fits_asked, asked_form, fits_why, why_form, choice_form, fits_given, given_form, recorded_form, recordable}

@@ -9,7 +9,7 @@ use Rattle.model.specs.File.{File}
 use Rattle.model.specs.Edit.{Pointer, Deletion, Addition, Edit, edit}
 use Rattle.model.specs.Counters.{CounterCall, new, reuse, mark, last, manifest, previous}
 use Rattle.model.specs.Snapshot.{Reader}
-use Rattle.model.specs.Reading.{Reads, gives_it}
+use Rattle.model.proofs.Reading.{Reads, gives_it}
 use Rattle.model.specs.History.{Call, edits, picks_size, picks_range, counts}
 use Rattle.model_replay.specs.Given.{Why, scored, by_hand, Choice, accepted, handed, picked, Given}
 use Rattle.model_replay.specs.Form.{num, key_form, file_form, got, pair, shaped, many, only, unread, tagged, tag}

@@ -16,9 +16,9 @@ use Rattle.model.specs.Edit.{Edit}
 use Rattle.model.specs.Snapshot.{encode, decode}
 use Rattle.model.specs.Calls.{write}
 use Rattle.model.specs.History.{Call, run}
-use Rattle.model.specs.Formed.{WF, formed_says, Words}
-use Rattle.model.specs.Reading.{decode_sound}
-use Rattle.model.specs.Demand3.{WordCalls, run_formed}
+use Rattle.model.proofs.Formed.{WF, formed_says, Words}
+use Rattle.model.proofs.Reading.{decode_sound}
+use Rattle.model.proofs.Demand3.{WordCalls, run_formed}
 use Rattle.model_replay.specs.Form.{num, file_form, pair, shaped, many, only}
 use Rattle.model_replay.specs.Recording.{Asked, asks_edit, asks_size, asks_range, asks_count, Recorded, Recording, call_of, calls_of, pointer_form, deletion_form, addition_form, log_form, edit_form, fits_asked, asked_form, given_form, recorded_form, settings_form, recording_form, recordable, read_recording}
 use Rattle.model_replay.specs.RecordingLaws.{record_says}

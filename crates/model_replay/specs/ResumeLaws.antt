@@ -16,8 +16,8 @@ use Rattle.model.specs.Key.{trailer_bytes}
 use Rattle.model.specs.File.{Profile, full, State}
 use Rattle.model.specs.Snapshot.{fresh_long, entry_long, file_long, longest_snapshot, encode, decode}
 use Rattle.model.specs.History.{run}
-use Rattle.model.specs.Formed.{WF}
-use Rattle.model.specs.SnapshotLaws.{Fits, encode_length}
+use Rattle.model.proofs.Formed.{WF}
+use Rattle.model.proofs.SnapshotLaws.{Fits, encode_length}
 use Rattle.model_replay.specs.Recording.{Recorded, Recording, calls_of, recorded_form, write_recording, recordable, read_recording}
 use Rattle.model_replay.specs.RecordingLaws.{record_back}
 use Rattle.model_replay.specs.Replay.{Outcome, ended, differs, replayed, go_on, replayed_from, concluded, replay_of, replay, first_part, rest_part, on_ended, resumed, replay_all, cuttable}

@@ -1,4 +1,6 @@
 // Lent runs of bytes. Each room is a whole number of 8-byte words, and eight bytes are read at once as one number, always from a multiple of eight on.
+#![tactic(auto)]
+
 ghost use Rattle.std.specs.Prelude.{◌≡◌, ◌+◌, ◌-◌, ◌/◌, ◌%◌, ◌^◌, ◌≤◌, ◌<◌, min, length, take, drop, get_or};
 ghost use Rattle.lemmas.specs.Order.{lexb};
 ghost use Rattle.lemmas.specs.Lists.{all};

@@ -9,13 +9,13 @@ use Rattle.model.specs.Answer.{gives, refused}
 use Rattle.model.specs.File.{State, full}
 use Rattle.model.specs.Calls.{read, or_bad}
 use Rattle.model.specs.Snapshot.{encode, decode, longest_snapshot}
-use Rattle.model.specs.SnapshotLaws.{full_fits}
+use Rattle.model.proofs.SnapshotLaws.{full_fits}
 use Rattle.model.specs.Difference.{Difference}
 use Rattle.model.specs.DifferenceBytes.{write_differences, decode_list, on_given, fitting, patching}
-use Rattle.model.specs.DifferenceReadingLaws.{decode_list_sound}
-use Rattle.model.specs.DifferingLaws.{snapshot_says, fitting_short, fitting_gives, patching_left, patching_list}
+use Rattle.model.proofs.DifferenceReadingLaws.{decode_list_sound}
+use Rattle.model.proofs.DifferingLaws.{snapshot_says, fitting_short, fitting_gives, patching_left, patching_list}
 use Rattle.model.specs.Patched.{patched}
-use Rattle.model.specs.OverlaidLaws.{patching_candidate, patching_long}
+use Rattle.model.proofs.OverlaidLaws.{patching_candidate, patching_long}
 use Rattle.snapshot_read.specs.Reading.{is_snapshot}
 use Rattle.snapshot_read.specs.ReadingLaws.{snapshot_read, snapshot_none}
 use Rattle.patch_list.specs.List.{is_some, is_list}

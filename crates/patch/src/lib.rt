@@ -1,4 +1,6 @@
 // A list of differences applied to a snapshot.
+#![tactic(auto)]
+
 ghost use Rattle.std.specs.Prelude.{◌≡◌, length};
 ghost use Rattle.model.specs.Answer.{lent};
 ghost use Rattle.model.specs.File.{full};

@@ -21,7 +21,7 @@ use Rattle.model.specs.File.{File}
 use Rattle.model.specs.Snapshot.{Read, Reader, onward, ◌>>=◌, give, times, read_bytes, read_number, read_key, read_file, read_section, byte_long, count_long, number_long}
 use Rattle.model.specs.Difference.{Difference, only_left, only_right, changed, pointer_is, counter_is}
 use Rattle.model.specs.DifferenceBytes.{left_kind, right_kind, section_of, section_at, read_file_of, read_file_difference, pointer_of, read_pointer_difference, read_counter_difference, read_differences}
-use Rattle.model.specs.DifferenceReadingLaws.{section_in}
+use Rattle.model.proofs.DifferenceReadingLaws.{section_in}
 
 -- ---- three lists
 -- all entries are of one section

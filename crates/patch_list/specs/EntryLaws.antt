@@ -15,12 +15,12 @@ use Rattle.model.specs.Key.{Key}
 use Rattle.model.specs.File.{File, full, good_file, good_pointer, level_count, max_counter, key_room}
 use Rattle.model.specs.Snapshot.{write_key, write_file, same_bytes, byte_long, number_long, counter_count}
 use Rattle.model.specs.KeyLaws.{good_key_says}
-use Rattle.model.specs.SnapshotLaws.{file_facts, write_key_length, write_file_length}
-use Rattle.model.specs.Reading.{same_eq, eq_same}
+use Rattle.model.proofs.SnapshotLaws.{file_facts, write_key_length, write_file_length}
+use Rattle.model.proofs.Reading.{same_eq, eq_same}
 use Rattle.model.specs.Difference.{Difference, only_left, only_right, changed, pointer_is, counter_is, good_difference}
 use Rattle.model.specs.DifferenceBytes.{left_kind, right_kind, changed_kind, section_of, key_of, pointer_of, write_difference}
-use Rattle.model.specs.DifferenceLengthLaws.{pointer_short}
-use Rattle.model.specs.DifferenceReadingLaws.{two_tests}
+use Rattle.model.proofs.DifferenceLengthLaws.{pointer_short}
+use Rattle.model.proofs.DifferenceReadingLaws.{two_tests}
 use Rattle.records.specs.RecordLaws.{short_keys}
 use Rattle.snapshot_parse.specs.Parsing.{number_in, key_in, after_key, file_in, after_file}
 use Rattle.snapshot_parse.specs.BackLaws.{Fit, number_back, number_past, key_back, key_rest, file_back, file_rest}

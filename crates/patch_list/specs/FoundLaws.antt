@@ -12,7 +12,7 @@ use Rattle.lemmas.specs.Slices.{put, put_front}
 use Rattle.model.specs.Key.{good_key}
 use Rattle.model.specs.File.{full, good_file, good_pointer, level_count, max_counter, key_room}
 use Rattle.model.specs.Snapshot.{write_key, write_file, same_bytes, byte_long, number_long, counter_count, keys_at}
-use Rattle.model.specs.Reading.{same_eq, eq_same}
+use Rattle.model.proofs.Reading.{same_eq, eq_same}
 use Rattle.model.specs.Difference.{only_right, changed}
 use Rattle.model.specs.DifferenceBytes.{left_kind, right_kind, changed_kind, pointer_of}
 use Rattle.keys.specs.declared.Key.{Key}

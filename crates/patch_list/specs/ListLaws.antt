@@ -17,11 +17,11 @@ use Rattle.lemmas.specs.Order.{clash}
 use Rattle.lemmas.specs.Slices.{rest_cons}
 use Rattle.model.specs.File.{full}
 use Rattle.model.specs.Snapshot.{Read, section, same_bytes}
-use Rattle.model.specs.SnapshotLaws.{full_fits}
+use Rattle.model.proofs.SnapshotLaws.{full_fits}
 use Rattle.model.specs.Difference.{Difference, earlier, good_difference, good_list}
 use Rattle.model.specs.DifferenceBytes.{section_of, section_at, write_difference, write_differences, read_differences, accept_list, decode_list}
-use Rattle.model.specs.DifferenceOrderLaws.{earlier_order}
-use Rattle.model.specs.DifferenceReadingLaws.{section_in, three_ordered, good_list_says, decode_list_sections, decode_list_sound}
+use Rattle.model.proofs.DifferenceOrderLaws.{earlier_order}
+use Rattle.model.proofs.DifferenceReadingLaws.{section_in, three_ordered, good_list_says, decode_list_sections, decode_list_sound}
 use Rattle.snapshot_parse.specs.Parsing.{At}
 use Rattle.patch_list.specs.List.{is_some, is_list}
 use Rattle.patch_list.specs.Entries.{section_right, after_section, list_right}

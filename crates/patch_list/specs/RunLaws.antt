@@ -20,7 +20,7 @@ use Rattle.lemmas.specs.Little.{bytes, number_bound}
 use Rattle.lemmas.specs.Order.{lexb, by_first}
 use Rattle.model.specs.File.{full}
 use Rattle.model.specs.Snapshot.{section, count_long}
-use Rattle.model.specs.SnapshotLaws.{section_length}
+use Rattle.model.proofs.SnapshotLaws.{section_length}
 use Rattle.model.specs.Difference.{Difference, only_left, only_right, changed, pointer_is, counter_is, place, earlier, good_difference}
 use Rattle.model.specs.DifferenceBytes.{section_of, write_difference}
 use Rattle.snapshot_parse.specs.Parsing.{number_in, parts_in, after_parts}

@@ -1,4 +1,6 @@
 // Whether bytes are a list of differences: its three sections are read leniently, entry by entry, and each entry must be good, in order, and these very bytes.
+#![tactic(auto)]
+
 ghost use Rattle.std.specs.Prelude.{◌≡◌, true, ◌&&◌, [], ◌∷◌, ◌≤◌, length, drop};
 ghost use Rattle.lemmas.specs.Order.{lexb};
 ghost use Rattle.model.specs.File.{key_room, good_pointer, full};

@@ -1,4 +1,6 @@
 // A list laid over a snapshot: the outcome's sections, written as far as the output has room.
+#![tactic(auto)]
+
 ghost use Rattle.std.specs.Prelude.{◌≡◌, cond, true, ◌∷◌, [], ◌+◌, ◌<◌, ◌≤◌, length, drop};
 ghost use Rattle.model.specs.File.{level_count};
 ghost use Rattle.model.specs.Snapshot.{section, count_long, counter_count};

@@ -17,13 +17,13 @@ use Rattle.lemmas.specs.Maps.{map_same_in}
 use Rattle.lemmas.specs.Once.{strict_first}
 use Rattle.lemmas.specs.Little.{bytes, bytes_length}
 use Rattle.model.specs.File.{State, full, max_counter}
-use Rattle.model.specs.Formed.{WF}
+use Rattle.model.proofs.Formed.{WF}
 use Rattle.model.specs.Snapshot.{encode, byte_long, number_long, counter_count}
 use Rattle.model.specs.Difference.{Difference, only_left, only_right, changed, pointer_is, counter_is, earlier, counter_at, good_difference}
 use Rattle.model.specs.DifferenceBytes.{section_of, write_difference}
-use Rattle.model.specs.DifferenceOrderLaws.{earlier_order, in_turn}
+use Rattle.model.proofs.DifferenceOrderLaws.{earlier_order, in_turn}
 use Rattle.model.specs.Patched.{counter_by, counter_after}
-use Rattle.model.specs.PatchedLaws.{counter_kept}
+use Rattle.model.proofs.PatchedLaws.{counter_kept}
 use Rattle.snapshot_parse.specs.BackLaws.{number_back, number_past}
 use Rattle.difference_scan.specs.Listing.{counter_bytes}
 use Rattle.difference_scan.specs.ListingLaws.{counter_back}

@@ -12,13 +12,13 @@ use Rattle.model.specs.Key.{Key}
 use Rattle.model.specs.KeyLaws.{good_key_says}
 use Rattle.model.specs.File.{File, full, good_file, good_pointer, key_room}
 use Rattle.model.specs.Snapshot.{Entry, write_key, write_file, write_entry, byte_long, number_long}
-use Rattle.model.specs.SnapshotLaws.{file_facts}
+use Rattle.model.proofs.SnapshotLaws.{file_facts}
 use Rattle.model.specs.Difference.{Difference, only_left, only_right, changed, pointer_is, counter_is, good_difference}
 use Rattle.model.specs.DifferenceBytes.{left_kind, right_kind, changed_kind, head_long, section_of, key_of, write_difference}
-use Rattle.model.specs.DifferenceLengthLaws.{pointer_short}
-use Rattle.model.specs.DifferenceReadingLaws.{two_tests}
+use Rattle.model.proofs.DifferenceLengthLaws.{pointer_short}
+use Rattle.model.proofs.DifferenceReadingLaws.{two_tests}
 use Rattle.model.specs.Patched.{brings}
-use Rattle.model.specs.OverlaidLaws.{number_named, is_of_level, pointer_level, set_pointer, brings_pointer}
+use Rattle.model.proofs.OverlaidLaws.{number_named, is_of_level, pointer_level, set_pointer, brings_pointer}
 use Rattle.keys.specs.KeyLaws.{good_length}
 use Rattle.records.specs.RecordLaws.{short_keys}
 use Rattle.snapshot_parse.specs.Parsing.{number_in}

@@ -15,14 +15,14 @@ use Rattle.lemmas.specs.Maps.{of_join_map}
 use Rattle.lemmas.specs.Once.{in_join_map, strict_one}
 use Rattle.lemmas.specs.Rising.{up_from_rising, strict_join}
 use Rattle.model.specs.File.{State, full, level, level_count}
-use Rattle.model.specs.Formed.{WF}
+use Rattle.model.proofs.Formed.{WF}
 use Rattle.model.specs.Snapshot.{by_number, write_file, section, write_level}
 use Rattle.model.specs.Difference.{Difference, only_left, only_right, changed, pointer_is, counter_is, earlier, good_difference, good_list}
 use Rattle.model.specs.DifferenceBytes.{section_of, write_difference, section_at}
-use Rattle.model.specs.DifferenceOrderLaws.{earlier_order, earlier_files}
-use Rattle.model.specs.DifferenceReadingLaws.{section_in, good_list_says}
+use Rattle.model.proofs.DifferenceOrderLaws.{earlier_order, earlier_files}
+use Rattle.model.proofs.DifferenceReadingLaws.{section_in, good_list_says}
 use Rattle.model.specs.Patched.{brings, patched}
-use Rattle.model.specs.OverlaidLaws.{number_named, is_of_level, of_level, names_own, overlaid_level}
+use Rattle.model.proofs.OverlaidLaws.{number_named, is_of_level, of_level, names_own, overlaid_level}
 use Rattle.difference_scan.specs.Listing.{as_is}
 use Rattle.difference_scan.specs.WrittenLaws.{section_past}
 use Rattle.difference_scan.specs.ListingLaws.{files_written, levels_from, stored, level_fits}

@@ -9,12 +9,12 @@ use Rattle.std.proofs.Math.Dec.{eqb}
 use Rattle.lemmas.specs.Lists.{join, up_from}
 use Rattle.lemmas.specs.Little.{bytes}
 use Rattle.model.specs.File.{State, full, level, level_count}
-use Rattle.model.specs.Formed.{WF}
+use Rattle.model.proofs.Formed.{WF}
 use Rattle.model.specs.Snapshot.{entries, write_entry, section, write_level, five_of, encode, count_long, number_long, counter_count}
 use Rattle.model.specs.Difference.{Difference, counter_at, good_list}
 use Rattle.model.specs.DifferenceBytes.{section_of, write_difference, section_at, write_differences}
 use Rattle.model.specs.Patched.{counter_after, patched}
-use Rattle.model.specs.OverlaidLaws.{pointer_level, brings_pointer, overlaid_pointers, overlaid_counters}
+use Rattle.model.proofs.OverlaidLaws.{pointer_level, brings_pointer, overlaid_pointers, overlaid_counters}
 use Rattle.snapshot_parse.specs.Parsing.{number_in}
 use Rattle.snapshot_parse.specs.BackLaws.{count_back, count_rest, past_counters, entries_fit}
 use Rattle.difference_scan.specs.Listing.{pointers_at, levels_at, as_is}

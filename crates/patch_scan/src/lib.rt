@@ -1,4 +1,6 @@
 // The entries of a list as runs of bytes: where each ends, the number that it stands by, what it brings.
+#![tactic(auto)]
+
 ghost use Rattle.std.specs.Prelude.{◌≡◌, ◌+◌, ◌≤◌, length, drop};
 ghost use Rattle.model.specs.Snapshot.{count_long};
 ghost use Rattle.snapshot_parse.specs.Parsing.{At, number_in};

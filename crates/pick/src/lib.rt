@@ -1,4 +1,6 @@
 // Picks on a store by value: size picks and manual picks, each with the store that it leaves.
+#![tactic(auto)]
+
 ghost use Rattle.std.specs.Prelude.{◌≡◌};
 ghost use Rattle.model.specs.File.{full};
 ghost use Rattle.model.specs.Pick as model;

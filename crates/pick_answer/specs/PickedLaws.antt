@@ -25,7 +25,7 @@ use Rattle.model.specs.Answer.{Answer, gives, refused, Refusal, ◌⇒◌, first
 use Rattle.model.specs.File.{File, full, total, numbers, in_order, levelwise, good_file, max_files, max_word}
 use Rattle.model.specs.Pick as model
 use Rattle.model.specs.Pick.{bad_maximum, good_level, good_picked, is_manual, trivial, largest_maximum}
-use Rattle.model.specs.PickedLaws.{good_level_says, GoodPicked, good_picked_says}
+use Rattle.model.proofs.PickedLaws.{good_level_says, GoodPicked, good_picked_says}
 use Rattle.model.specs.Calls as calls
 use Rattle.records.specs.Record.{file_of, sound_record, well_record, is_blank, AllShaped}
 use Rattle.records.specs.RecordLaws.{AllWords, well_list_lem, well_list_is, total_bound, column_run}

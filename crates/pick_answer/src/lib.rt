@@ -1,4 +1,6 @@
 // The answer of a pick by value: whether it is well-formed, and whether it is a trivial move.
+#![tactic(auto)]
+
 ghost use Rattle.std.specs.Prelude.{◌≡◌, true, ◌+◌, ◌≤◌};
 ghost use Rattle.model.specs.File.{full, max_files};
 ghost use Rattle.model.specs.Pick.{is_manual, trivial};

@@ -15,13 +15,13 @@ use Rattle.lemmas.specs.Loops.{compare, keep_later}
 use Rattle.lemmas.specs.Slices.{run_join, length_view, at_view}
 use Rattle.lemmas.specs.Order.{clash, asym, lt_le, le_lt}
 use Rattle.model.specs.File.{File, full, level, total, by_smallest, in_order, apart, level_count, max_bytes, max_files}
-use Rattle.model.specs.Formed.{good_file_order, levels_sorted}
+use Rattle.model.proofs.Formed.{good_file_order, levels_sorted}
 use Rattle.model.specs.Key.{user, user_before, before}
 use Rattle.model.specs.KeyLaws.{before_order, user_before_order, before_user}
 use Rattle.model.specs.Pick.{up_to}
-use Rattle.model.specs.PickedLaws.{GoodLevel}
+use Rattle.model.proofs.PickedLaws.{GoodLevel}
 use Rattle.model.specs.Range.{Range, overlaps, inside, widen, low_key, high_key}
-use Rattle.model.specs.RangeLaws.{overlaps_says, inside_says, widen_least}
+use Rattle.model.proofs.RangeLaws.{overlaps_says, inside_says, widen_least}
 use Rattle.keys.specs.KeyLaws.{key_of_record}
 use Rattle.records.specs.Record.{file_of, past}
 use Rattle.records.specs.RecordLaws.{run_turn, run_ended}

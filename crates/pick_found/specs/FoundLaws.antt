@@ -11,15 +11,15 @@ use Rattle.lemmas.specs.ListLaws.{Sub}
 use Rattle.lemmas.specs.Slices.{sum_append, length_view}
 use Rattle.lemmas.specs.Order.{StrictWeak, clash, lt_le, flip_order}
 use Rattle.model.specs.File.{File, full, level, total, max_size, level_count, max_bytes, max_files, max_word}
-use Rattle.model.specs.Formed.{formed_says, good_file_says}
+use Rattle.model.proofs.Formed.{formed_says, good_file_says}
 use Rattle.model.specs.Key.{Key, before}
 use Rattle.model.specs.KeyLaws.{before_order}
 use Rattle.model.specs.Pick.{up_to}
-use Rattle.model.specs.PickLaws.{overlapping_sub}
-use Rattle.model.specs.PickedLaws.{GoodLevel, good_level_says, part_good}
-use Rattle.model.specs.ScoreLaws.{total_most}
+use Rattle.model.proofs.PickLaws.{overlapping_sub}
+use Rattle.model.proofs.PickedLaws.{GoodLevel, good_level_says, part_good}
+use Rattle.model.proofs.ScoreLaws.{total_most}
 use Rattle.model.specs.Range.{Range, between, overlaps, widen, overlapping, low_key, high_key, range_of}
-use Rattle.model.specs.RangeLaws.{smallest_of, largest_of, low_fold, high_fold}
+use Rattle.model.proofs.RangeLaws.{smallest_of, largest_of, low_fold, high_fold}
 use Rattle.keys.specs.declared.Key as keys
 use Rattle.keys.specs.Key.{key_of}
 use Rattle.records.specs.Record.{file_of}

@@ -1,4 +1,6 @@
 // Files found at a level, as a run of places with their ends and bytes, and the ranges of such files.
+#![tactic(auto)]
+
 ghost use Rattle.std.specs.Prelude.{◌≡◌, not, ◌&&◌, ◌+◌, ◌^◌, ◌<◌, ltb};
 ghost use Rattle.model.specs.File.{max_files};
 ghost use Rattle.model.specs.Completion as completion;

@@ -8,14 +8,14 @@ use Rattle.lemmas.specs.Order.{clash}
 use Rattle.lemmas.specs.Lists.{is_empty}
 use Rattle.model.specs.Answer.{Answer, gives, refused}
 use Rattle.model.specs.Completion.{inputs}
-use Rattle.model.specs.EdgeLaws.{NoneLeft, pick_none_left}
+use Rattle.model.proofs.EdgeLaws.{NoneLeft, pick_none_left}
 use Rattle.model.specs.File.{State, full, level}
-use Rattle.model.specs.Formed.{WF, formed_says}
+use Rattle.model.proofs.Formed.{WF, formed_says}
 use Rattle.model.specs.Key.{Key}
 use Rattle.model.specs.Pick as model
 use Rattle.model.specs.Pick.{good_picked, size_pick, manual_pick}
-use Rattle.model.specs.PickLaws.{Begun, size_begun, range_begun, OfLevel, pick_keeps, pick_of_level, pick_nonempty, pick_second_same}
-use Rattle.model.specs.PickedLaws.{size_good, range_good}
+use Rattle.model.proofs.PickLaws.{Begun, size_begun, range_begun, OfLevel, pick_keeps, pick_of_level, pick_nonempty, pick_second_same}
+use Rattle.model.proofs.PickedLaws.{size_good, range_good}
 use Rattle.model.specs.Range.{range_of}
 use Rattle.answers.specs.Outcome.{outcome_of}
 use Rattle.answers.specs.declared.Outcome.TheVariants.{Done, Refused}

@@ -1,4 +1,6 @@
 // Picks on a store that the caller lends. The plan is followed and the level's pointer is set in place. A refused pick leaves the store as it was.
+#![tactic(auto)]
+
 ghost use Rattle.std.specs.Prelude.{◌<◌};
 ghost use Rattle.model.specs.File.{full, last_level};
 ghost use Rattle.model.specs.Pick as model;

@@ -6,13 +6,13 @@ use Rattle.lemmas.specs.ListLaws.{and_right, keep_none, sub_all}
 use Rattle.lemmas.specs.Lists.{find, is_empty}
 use Rattle.lemmas.specs.Order.{lexb, clash}
 use Rattle.model.specs.Completion.{completed, completed_at, inputs}
-use Rattle.model.specs.CompletionLaws.{completed_empty}
+use Rattle.model.proofs.CompletionLaws.{completed_empty}
 use Rattle.model.specs.File.{File, full, level, good_file, level_count, max_files, max_word}
-use Rattle.model.specs.Formed.{good_file_says}
+use Rattle.model.proofs.Formed.{good_file_says}
 use Rattle.model.specs.Key.{Key, user, user_before, good_key}
 use Rattle.model.specs.KeyLaws.{good_key_says}
 use Rattle.model.specs.Pick.{up_to, manual_inputs, bad_maximum, grows, grown_first, largest_maximum}
-use Rattle.model.specs.PickLaws.{grown_nonempty}
+use Rattle.model.proofs.PickLaws.{grown_nonempty}
 use Rattle.model.specs.Range.{Range, between, overlaps, overlapping, low_key, high_key, range_of}
 use Rattle.store.specs.declared.Store.{Store}
 use Rattle.store.specs.Store.{state_of, well_store}

@@ -13,7 +13,7 @@ use Rattle.lemmas.specs.Lists.{is_empty}
 use Rattle.lemmas.specs.Order.{clash}
 use Rattle.model.specs.Completion.{completed, completed_at}
 use Rattle.model.specs.File.{File, level, pointer, total, level_count, max_bytes, max_files}
-use Rattle.model.specs.LineLaws.{Line}
+use Rattle.model.proofs.LineLaws.{Line}
 use Rattle.model.specs.Pick.{start_file}
 use Rattle.keys.specs.Key.{key_of}
 use Rattle.records.specs.Record.{file_of, past}

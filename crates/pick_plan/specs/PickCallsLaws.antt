@@ -15,7 +15,7 @@ use Rattle.model.specs.Completion.{completed_at}
 use Rattle.model.specs.File.{File, State, full, level, pointer, level_count, max_files, max_word}
 use Rattle.model.specs.Key.{Key, before, good_key}
 use Rattle.model.specs.Pick.{up_to, first_file, start_file, size_inputs, manual_inputs, by_size, manual, Pick, complete, bad_maximum, size_pick, manual_pick}
-use Rattle.model.specs.PickLaws.{due_nonempty, size_nonempty}
+use Rattle.model.proofs.PickLaws.{due_nonempty, size_nonempty}
 use Rattle.model.specs.Range.{Range, between, overlapping, range_of}
 use Rattle.model.specs.Score.{score, level_to_compact, due, reported}
 use Rattle.store.specs.declared.Store.{Store}

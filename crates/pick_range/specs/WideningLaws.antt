@@ -19,7 +19,7 @@ use Rattle.lemmas.specs.Loops.{find_later}
 use Rattle.lemmas.specs.Slices.{at_view}
 use Rattle.model.specs.File.{File}
 use Rattle.model.specs.Range.{Range, overlaps, inside, Within, Closed, LeastWidening, stretch, sticks_out, widen}
-use Rattle.model.specs.RangeLaws.{within_refl, within_trans, overlaps_mono, inside_mono, stretch_within, stretch_inside, stretch_least, sticks_overlaps, sticks_outside, no_stick, widen_least, one_widening}
+use Rattle.model.proofs.RangeLaws.{within_refl, within_trans, overlaps_mono, inside_mono, stretch_within, stretch_inside, stretch_least, sticks_overlaps, sticks_outside, no_stick, widen_least, one_widening}
 use Rattle.records.specs.Record.{file_of, past}
 use Rattle.records.specs.RecordLaws.{run_turn, run_ended}
 use Rattle.records.specs.Run.{run}

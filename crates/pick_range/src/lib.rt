@@ -1,4 +1,6 @@
 // Ranges of user keys: which files of a run overlap one, how many bytes they have, and the least widening at level 0.
+#![tactic(auto)]
+
 ghost use Rattle.std.specs.Prelude.{◌≡◌, cond, ◌≤◌, min};
 ghost use Rattle.lemmas.specs.Lists.{any, keep};
 ghost use Rattle.model.specs.File.{total, max_files, max_word};

@@ -14,8 +14,8 @@ use Rattle.lemmas.specs.ListLaws.{neither_left}
 use Rattle.lemmas.specs.Slices.{parts, length_parts}
 use Rattle.model.specs.Completion.{completed}
 use Rattle.model.specs.File.{File, full, level, total, level_count, max_files}
-use Rattle.model.specs.Formed.{formed_says}
-use Rattle.model.specs.LineLaws.{Line, level_line}
+use Rattle.model.proofs.Formed.{formed_says}
+use Rattle.model.proofs.LineLaws.{Line, level_line}
 use Rattle.model.specs.Pick.{up_to}
 use Rattle.model.specs.Range.{Range, overlaps, overlapping, widen}
 use Rattle.records.specs.Record.{file_of}

@@ -5,9 +5,9 @@ use Rattle.std.proofs.Common.{◌∙◌, arith}
 use mathlib.Core.List.{List, [], ◌∷◌, ◌++◌, append-nil}
 use Rattle.lemmas.specs.Lists.{take_on, is_empty}
 use Rattle.model.specs.Completion.{completed, follows}
-use Rattle.model.specs.CompletionLaws.{completed_on}
+use Rattle.model.proofs.CompletionLaws.{completed_on}
 use Rattle.model.specs.File.{File}
-use Rattle.model.specs.LineLaws.{Line}
+use Rattle.model.proofs.LineLaws.{Line}
 use Rattle.model.specs.Range.{high_key}
 use Rattle.records.specs.Run.{run}
 use Rattle.records.specs.declared.FileRecord.{FileRecord}

@@ -10,10 +10,10 @@ use Rattle.std.proofs.Math.ListN.{length, get_or-eq_default}
 use Rattle.lemmas.specs.Lists.{keep, sum}
 use Rattle.model.specs.Completion.{completed, completed_at, inputs}
 use Rattle.model.specs.File.{File, full, level, total, set_pointer, level_count, max_bytes, max_files, max_word}
-use Rattle.model.specs.Formed.{formed_says}
+use Rattle.model.proofs.Formed.{formed_says}
 use Rattle.model.specs.Pick as model
 use Rattle.model.specs.Pick.{up_to, grand_of}
-use Rattle.model.specs.PickLaws.{level_in_line, formed_sub, inputs_formed}
+use Rattle.model.proofs.PickLaws.{level_in_line, formed_sub, inputs_formed}
 use Rattle.model.specs.Range.{Range, overlapping, high_key, range_of}
 use Rattle.levels.specs.Levels.{levels_of}
 use Rattle.levels.specs.LevelsLaws as levels

@@ -1,4 +1,6 @@
 // The five searches of a pick over a lent store: first inputs by a range, second inputs, growth (two searches), grandparents. Then the chosen files are copied once.
+#![tactic(auto)]
+
 ghost use Rattle.std.specs.Prelude.{◌≡◌, true, ◌+◌, ◌^◌, ◌<◌, ◌≤◌};
 ghost use Rattle.lemmas.specs.Lists.{sum};
 ghost use Rattle.model.specs.File.{level_count, max_bytes, max_files};

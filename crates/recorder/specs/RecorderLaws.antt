@@ -19,7 +19,7 @@ use Rattle.model.specs.Answer.{gives, refused, lent}
 use Rattle.model.specs.File.{full, max_pointers, max_deletions, max_additions, key_room, max_word}
 use Rattle.model.specs.Counters.{CounterCall, new}
 use Rattle.model.specs.Snapshot.{byte_long, count_long, number_long, write_key, write_file, section}
-use Rattle.model.specs.SnapshotLaws.{section_length, write_key_length}
+use Rattle.model.proofs.SnapshotLaws.{section_length, write_key_length}
 use Rattle.model_replay.specs.Form.{Form, num, key_form, file_form, pair, shaped, only, many, tag}
 use Rattle.model_replay.specs.Given.{Given}
 use Rattle.model_replay.specs.Recording.{Asked, asks_size, asks_range, asks_count, trimmed, calls_long, setting_count, edit_tag, size_tag, range_tag, count_tag, new_tag, handed_tag, pointer_form, deletion_form, addition_form, log_form, edit_form, range_form, write_count, count_form, write_asked, asked_form, recorded_form, settings_form}

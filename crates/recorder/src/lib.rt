@@ -1,4 +1,6 @@
 // The public calls of the controller's side: the bytes that it adds to a record as it goes.
+#![tactic(auto)]
+
 ghost use Rattle.std.specs.Prelude.{◌≡◌, true, ◌+◌, ◌≤◌, length};
 ghost use Rattle.lemmas.specs.Slices.{put};
 ghost use Rattle.model.specs.Answer.{lent};

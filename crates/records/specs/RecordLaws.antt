@@ -14,9 +14,9 @@ use Rattle.lemmas.specs.Each.{Each}
 use Rattle.model.specs.File.{File, full, seeks, total, numbers, good_file, max_size, key_room, max_files, max_bytes}
 use Rattle.model.specs.Key.{before}
 use Rattle.model.specs.Range.{low_key, high_key}
-use Rattle.model.specs.RangeLaws.{smallest_of, largest_of, low_fold, high_fold}
-use Rattle.model.specs.SnapshotLaws.{file_facts}
-use Rattle.model.specs.ScoreLaws.{total_most}
+use Rattle.model.proofs.RangeLaws.{smallest_of, largest_of, low_fold, high_fold}
+use Rattle.model.proofs.SnapshotLaws.{file_facts}
+use Rattle.model.proofs.ScoreLaws.{total_most}
 use Rattle.keys.specs.declared.Key.{Key}
 use Rattle.keys.specs.Key.{key_of, key_record, sound_key}
 use Rattle.keys.specs.KeyLaws as key

@@ -1,4 +1,6 @@
 // File records by value, and sums and ranges over a run of places. Every function answers for every record and every place.
+#![tactic(auto)]
+
 ghost use Rattle.std.specs.Prelude.{◌≡◌, min, replicate};
 ghost use Rattle.lemmas.specs.Lists.{all};
 ghost use Rattle.lemmas.specs.Slices.{put};

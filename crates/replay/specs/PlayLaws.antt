@@ -15,9 +15,9 @@ use Rattle.lemmas.specs.AreBytes.{bytes_drop}
 use Rattle.lemmas.specs.Little.{bytes, bytes_length}
 use Rattle.model.specs.File.{State, full}
 use Rattle.model.specs.Snapshot.{count_long, number_long, times, same_bytes}
-use Rattle.model.specs.SnapshotLaws.{full_fits}
-use Rattle.model.specs.Reading.{same_eq, eq_same}
-use Rattle.model.specs.Formed.{formed_says}
+use Rattle.model.proofs.SnapshotLaws.{full_fits}
+use Rattle.model.proofs.Reading.{same_eq, eq_same}
+use Rattle.model.proofs.Formed.{formed_says}
 use Rattle.model.specs.History.{Call, after}
 use Rattle.model_replay.specs.Given.{Given, given}
 use Rattle.model_replay.specs.Form.{pair, shaped}

@@ -14,8 +14,8 @@ use Rattle.lemmas.specs.Order.{clash}
 use Rattle.lemmas.specs.Slices.{put, put_nil, put_front, length_put}
 use Rattle.model.specs.Answer.{Answer, gives, refused, on_answer, lent}
 use Rattle.model.specs.File.{State, full}
-use Rattle.model.specs.Formed.{WF, formed_says}
-use Rattle.model.specs.Reading.{decode_sound}
+use Rattle.model.proofs.Formed.{WF, formed_says}
+use Rattle.model.proofs.Reading.{decode_sound}
 use Rattle.model.specs.Edit.{edit}
 use Rattle.model.specs.Calls as calls
 use Rattle.model.specs.Counters.{new, reuse, mark, last, manifest, previous}

@@ -1,4 +1,6 @@
 // The public call: a recorded day replayed from a snapshot.
+#![tactic(auto)]
+
 ghost use Rattle.std.specs.Prelude.{◌≡◌, true, ◌+◌, ◌^◌, ◌<◌, ◌≤◌, length};
 ghost use Rattle.model.specs.File.{full};
 ghost use Rattle.model_replay.specs.Replay as model;

@@ -21,11 +21,11 @@ use Rattle.model.specs.CounterLaws.{new_is}
 use Rattle.model.specs.Calls as calls
 use Rattle.model.specs.Pick as pick
 use Rattle.model.specs.Pick.{size_pick, manual_pick, complete, good_picked}
-use Rattle.model.specs.PickLaws.{size_accepted, range_accepted}
-use Rattle.model.specs.PickedLaws.{size_good, range_good}
+use Rattle.model.proofs.PickLaws.{size_accepted, range_accepted}
+use Rattle.model.proofs.PickedLaws.{size_good, range_good}
 use Rattle.model.specs.History as history
-use Rattle.model.specs.Formed.{formed_says}
-use Rattle.model.specs.Demand3.{WordCalls, run_formed}
+use Rattle.model.proofs.Formed.{formed_says}
+use Rattle.model.proofs.Demand3.{WordCalls, run_formed}
 use Rattle.model.specs.History.{edits, picks_size, picks_range, counts, kept, kept_pick, after, run}
 use Rattle.model_replay.specs.Given as said
 use Rattle.model_replay.specs.Given.{Given, accepted, picked, choice_of, count_says, given}

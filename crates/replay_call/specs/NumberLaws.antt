@@ -5,9 +5,9 @@ use Rattle.std.proofs.Common.{ap, ◌∙◌, arith}
 use Rattle.std.specs.Float.{Format, binary64, inf}
 use Rattle.std.specs.Float.Ieee.{prec, emax, low, size, nearest, odd, units, round, is_nan}
 use Rattle.model.specs.File.{State, full, well_formed}
-use Rattle.model.specs.Formed.{formed_says}
+use Rattle.model.proofs.Formed.{formed_says}
 use Rattle.model.specs.Score.{Score, score, level_to_compact, reported}
-use Rattle.model.specs.ScoreLaws.{Proper, score_proper, Lossless, lossless, level_is, reported_once}
+use Rattle.model.proofs.ScoreLaws.{Proper, score_proper, Lossless, lossless, level_is, reported_once}
 
 -- ---- rounding
 -- a value written with an odd significand is a number

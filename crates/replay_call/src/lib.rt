@@ -1,4 +1,6 @@
 // The calls that a record holds: each is read by value and made on a store, and its answer is laid in lent room.
+#![tactic(auto)]
+
 ghost use Rattle.std.specs.Prelude.{◌≡◌, true, [], ◌+◌, ◌≤◌, length, drop};
 ghost use Rattle.std.proofs.Math.Option.{none};
 ghost use Rattle.model.specs.File.{full, max_pointers, max_deletions, max_additions};

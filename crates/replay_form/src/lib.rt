@@ -1,4 +1,6 @@
 // The tags of a record's calls and answers, and where its parts stand.
+#![tactic(auto)]
+
 use snapshot_parts::Snapshot;
 
 // The tags of calls and of answers, and what stands where in a record.

@@ -17,7 +17,7 @@ use Rattle.model.specs.Answer.{gives, refused}
 use Rattle.model.specs.File.{File, full, in_order, levelwise, good_file, max_files, key_room}
 use Rattle.model.specs.Pick.{good_picked}
 use Rattle.model.specs.Snapshot.{byte_long, count_long, number_long, file_long, write_file, section}
-use Rattle.model.specs.SnapshotLaws.{section_length, file_most}
+use Rattle.model.proofs.SnapshotLaws.{section_length, file_most}
 use Rattle.model_replay.specs.Form.{num, file_form, pair, shaped, many, tag}
 use Rattle.model_replay.specs.Given.{Said, accepted, picked, choice_of, why_of}
 use Rattle.model_replay.specs.Recording.{scored_tag, by_hand_tag, accepted_tag, handed_tag, picked_tag, refused_tag, write_why, why_form, choice_form, write_given, given_form}

@@ -1,4 +1,6 @@
 // Where the parts of a recorded day end: calls and answers as runs of bytes, and whether bytes are a record.
+#![tactic(auto)]
+
 ghost use Rattle.std.specs.Prelude.{◌≡◌, ◌≤◌, length, drop};
 ghost use Rattle.std.proofs.Math.Option.{none};
 ghost use Rattle.model_replay.specs.Takes.{takes, repeated, key_takes, part_takes, section_takes, log_takes, edit_takes, count_takes, asked_takes, why_takes, choice_takes, given_takes, entry_takes, settings_take};

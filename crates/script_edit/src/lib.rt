@@ -1,4 +1,6 @@
 // The edit that the items of a line make. The shell has tested before that each word is an item. For any other word the functions still answer, by what its parts read as.
+#![tactic(auto)]
+
 ghost use Rattle.std.specs.Prelude.{◌≡◌, length};
 ghost use Rattle.script_edit.specs.Items.{deletion_of, pointing_of, addition_of, log_of, item_of, edit_of_line};
 

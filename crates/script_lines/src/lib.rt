@@ -1,4 +1,6 @@
 // Answer lines, built in lent bytes from a place on. Each function returns the place after what it wrote. What has no room is left out.
+#![tactic(auto)]
+
 ghost use Rattle.std.specs.Prelude.{◌≡◌, [], ◌∷◌, ◌<◌, min, length};
 ghost use Rattle.io.specs.Digits.{hex_digit_ascii};
 ghost use Rattle.keys.specs.Key.{key_of, user_of};

@@ -1,4 +1,6 @@
 // The parts of a line: words with one blank between two, or the parts of an item with one comma between two. Also what a part stands for. A part that is missing has no bytes.
+#![tactic(auto)]
+
 ghost use Rattle.std.specs.Prelude.{◌≡◌, length};
 ghost use Rattle.script_words.specs.Words.{word_of, number_word, internal_key, user_word};
 ghost use Rattle.script_parts.specs.Parts.{words_of, next_end, part_end, start_after, run_of};

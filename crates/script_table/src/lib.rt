@@ -1,4 +1,6 @@
 // The table of the script's commands: which command a line is, what its words must be, which word is wrong, and help.
+#![tactic(auto)]
+
 ghost use Rattle.std.specs.Prelude.{◌≡◌, cond, ◌≤◌, ◌+◌, ◌-◌, length, ltb};
 ghost use Rattle.script_lines.specs.Lines.{Laid};
 ghost use Rattle.script_words.specs.Words.{word_of};

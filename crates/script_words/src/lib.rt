@@ -1,4 +1,6 @@
 // The words of a script's line: numbers, keys and names. Every function answers for every line and every pair of places. `fine` is false if the word is not of that kind.
+#![tactic(auto)]
+
 ghost use Rattle.std.specs.Prelude.{◌≡◌, cond, true, false, ◌++◌, ◌+◌, ◌-◌, ◌*◌, ◌≤◌, ◌<◌, leb, length, get_or, take};
 ghost use Rattle.model.specs.File.{longest_user};
 ghost use Rattle.lemmas.specs.Loops.{before_first};

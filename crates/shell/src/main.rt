@@ -1,4 +1,6 @@
 // shell: reads a script on standard input and prints one answer line for each command.
+#![tactic(auto)]
+
 ghost use Rattle.std.specs.Prelude.{◌≤◌, length};
 
 use shell_answer::Begun;
@@ -23,7 +25,14 @@ fn print(out: &mut [u8], at: usize) {
 }
 
 // Writes the store's snapshot: keeps it under a letter, or saves it to a file.
-fn put_written<R: Files>(rt: &R, out: &mut [u8], kept: &mut [u8], s: Store, line: &[u8], which: u8) -> usize {
+fn put_written<R: Files>(
+    rt: &R,
+    out: &mut [u8],
+    kept: &mut [u8],
+    s: Store,
+    line: &[u8],
+    which: u8,
+) -> usize {
     if which == b'k' {
         return shell_difference::keep(out, s, line, kept);
     }
@@ -31,7 +40,14 @@ fn put_written<R: Files>(rt: &R, out: &mut [u8], kept: &mut [u8], s: Store, line
 }
 
 // Lays the answer of a command that leaves the machine as it is, and says where it ends.
-fn put_still<R: Files>(rt: &R, out: &mut [u8], kept: &mut [u8], s: Store, line: &[u8], c: Begun) -> usize {
+fn put_still<R: Files>(
+    rt: &R,
+    out: &mut [u8],
+    kept: &mut [u8],
+    s: Store,
+    line: &[u8],
+    c: Begun,
+) -> usize {
     if c.group == b'p' {
         return c.at;
     }
@@ -80,7 +96,14 @@ fn front_of(out: &mut [u8], line: &[u8], count: usize) -> usize
 }
 
 // Answers the line of so many bytes.
-fn take<R: Files>(rt: &R, out: &mut [u8], kept: &mut [u8], m: Machine, line: &[u8], count: usize) -> Machine {
+fn take<R: Files>(
+    rt: &R,
+    out: &mut [u8],
+    kept: &mut [u8],
+    m: Machine,
+    line: &[u8],
+    count: usize,
+) -> Machine {
     let n = front_of(out, line, count);
     answer(rt, out, kept, m, &line[0..n])
 }

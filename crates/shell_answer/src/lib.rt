@@ -1,4 +1,6 @@
 // The shell's answers that leave the machine as it is: what a line is, what is wrong with it, and the answers to questions.
+#![tactic(auto)]
+
 ghost use Rattle.std.specs.Prelude.{◌≤◌, length};
 
 use store::Store;

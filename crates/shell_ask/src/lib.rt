@@ -1,4 +1,6 @@
 // The commands that ask about the whole store or one of its levels.
+#![tactic(auto)]
+
 mod levels_asked;
 mod store_asked;
 

@@ -1,4 +1,6 @@
 // The shell's commands on two snapshots: keep one under a letter, tell what differs between two, the list of that, and what a list makes of one.
+#![tactic(auto)]
+
 mod slots;
 
 ghost use Rattle.std.specs.Prelude.{◌≤◌, length};

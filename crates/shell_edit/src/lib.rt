@@ -1,4 +1,6 @@
 // The commands that change the store and no pick: the store that each leaves, and its short answer.
+#![tactic(auto)]
+
 ghost use Rattle.std.specs.Prelude.{◌≡◌, ◌≤◌, length, get_or, take};
 ghost use Rattle.shell_edit.specs.Changes.{told_by, next_by, counted_by, number_by, handed_by, loaded_by, read_of, set_by, count_by, word_at, number_at, bytes_in, changed_by};
 

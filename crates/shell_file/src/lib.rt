@@ -1,4 +1,6 @@
 // The shell's commands on files: the store's snapshot saved to one, and a store read from one.
+#![tactic(auto)]
+
 ghost use Rattle.std.specs.Prelude.{◌≡◌, ◌≤◌, length};
 ghost use Rattle.shell_edit.specs.Changes.{read_of, loaded_by};
 ghost use Rattle.shell_file.specs.Opening.{Left};

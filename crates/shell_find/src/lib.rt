@@ -1,4 +1,6 @@
 // The commands that ask a store about a key or a range of keys.
+#![tactic(auto)]
+
 ghost use Rattle.std.specs.Prelude.{◌≤◌, length};
 
 use answers::{Counted, Outcome, Refusal, YesNo};

@@ -1,4 +1,6 @@
 // The last pick with its memories, and the commands that ask about it, key after key: where to cut, and base levels.
+#![tactic(auto)]
+
 ghost use Rattle.std.specs.Prelude.{◌≡◌, ◌≤◌, length};
 ghost use Rattle.shell_follow.specs.Following.{begun_with, Stays};
 

@@ -1,4 +1,6 @@
 // The commands that ask about keys alone.
+#![tactic(auto)]
+
 ghost use Rattle.std.specs.Prelude.{◌≤◌, length};
 
 use answers::Outcome;

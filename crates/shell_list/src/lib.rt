@@ -1,4 +1,6 @@
 // The text of a list of differences, from its bytes: the entries in order, a blank between two.
+#![tactic(auto)]
+
 ghost use Rattle.std.specs.Prelude.{◌≤◌, length};
 
 use difference_scan::Kind;

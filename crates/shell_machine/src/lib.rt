@@ -1,4 +1,6 @@
 // What a script works on, and the commands that change it. Each lays its answer in lent bytes, and hands back what it leaves.
+#![tactic(auto)]
+
 ghost use Rattle.std.specs.Prelude.{◌≡◌, false, ◌≤◌, length};
 ghost use Rattle.shell_edit.specs.Changes.{changed_by};
 ghost use Rattle.shell_file.specs.Opening.{Left};

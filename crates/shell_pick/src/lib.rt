@@ -1,4 +1,6 @@
 // The answer line of a pick: level, cause, inputs, grandparents, pointer, deletions of the inputs; or the refusal.
+#![tactic(auto)]
+
 ghost use Rattle.std.specs.Prelude.{◌≤◌, length};
 
 use answers::{Outcome, YesNo};

@@ -1,4 +1,6 @@
 // Answers of the shell laid in lent bytes: short ones by value, forms with numbers in them, lists of numbers.
+#![tactic(auto)]
+
 ghost use Rattle.std.specs.Prelude.{◌≡◌, map, ◌-◌, get_or, take, drop};
 ghost use Rattle.script_lines.specs.Lines.{Laid};
 ghost use Rattle.shell_reply.specs.Replies.{mark_text, next_place, form_text, number_of, numbers_text, more_text, more_texts, files_text, next_text, front_text, said_text, said_by};

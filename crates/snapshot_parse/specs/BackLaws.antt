@@ -15,10 +15,10 @@ use Rattle.lemmas.specs.ListLaws.{sort_in, sort_length}
 use Rattle.lemmas.specs.Little.{number, bytes, bytes_length, bytes_number}
 use Rattle.lemmas.specs.Laying.{map_places}
 use Rattle.model.specs.File.{File, State, full, level, good_pointer, max_counter, max_size, key_room, level_count, max_files}
-use Rattle.model.specs.Formed.{WF}
+use Rattle.model.proofs.Formed.{WF}
 use Rattle.model.specs.Snapshot.{by_number, write_key, write_file, Entry, entries, write_entry, section, write_level, five_of, encode, placed, counters_long, byte_long, count_long, number_long}
-use Rattle.model.specs.SnapshotLaws.{entries_few, entries_among, file_facts}
-use Rattle.model.specs.Reading.{in_read_order, as_read, placed_back}
+use Rattle.model.proofs.SnapshotLaws.{entries_few, entries_among, file_facts}
+use Rattle.model.proofs.Reading.{in_read_order, as_read, placed_back}
 use Rattle.keys.specs.KeyLaws.{good_length}
 use Rattle.records.specs.RecordLaws.{short_keys}
 use Rattle.snapshot_parse.specs.Parsing.{number_in, key_length, key_in, after_key, file_in, after_file, parts_in, after_parts, entry_in, after_entry, entry_count, entries_in, after_entries, counters_in, levels_in, state_in}

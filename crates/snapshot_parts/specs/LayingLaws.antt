@@ -8,7 +8,7 @@ use Rattle.lemmas.specs.Slices.{put, rest_cons}
 use Rattle.lemmas.specs.Laying.{put_next}
 use Rattle.model.specs.File.{File, full, good_pointer, key_room}
 use Rattle.model.specs.Snapshot.{write_key, write_file, Entry, entries, write_entry, section, counters_long, byte_long, count_long, number_long}
-use Rattle.model.specs.SnapshotLaws.{write_key_length, write_file_length, write_entry_length}
+use Rattle.model.proofs.SnapshotLaws.{write_key_length, write_file_length, write_entry_length}
 use Rattle.keys.specs.declared.Key.{Key}
 use Rattle.keys.specs.Key.{key_of, is_zero, sound, sound_key}
 use Rattle.keys.specs.KeyLaws.{held_in}

@@ -5,7 +5,7 @@ use borrow.Author.Tests.{eq-eqb, ne_eqb}
 use Rattle.std.proofs.Math.ListN.{drop_of_length-le}
 use Rattle.lemmas.specs.Slices.{rest_cons}
 use Rattle.model.specs.Snapshot.{same_bytes}
-use Rattle.model.specs.Reading.{same_eq}
+use Rattle.model.proofs.Reading.{same_eq}
 
 -- lists of different lengths are not equal
 pub lengths_differ : (a b : List ℕ) → (length a ≡ length b → ⊥) → same_bytes a b ≡ false

@@ -1,4 +1,6 @@
 // Writes the parts of a snapshot into lent bytes: numbers, keys, files, counters, pointers.
+#![tactic(auto)]
+
 ghost use Rattle.std.specs.Prelude.{◌≡◌, true, map, ◌+◌, ◌≤◌, length};
 ghost use Rattle.lemmas.specs.Lists.{all};
 ghost use Rattle.lemmas.specs.Little.{bytes};

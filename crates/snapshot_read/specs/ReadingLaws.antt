@@ -11,10 +11,10 @@ use Rattle.lemmas.specs.ListLaws.{and_left, and_right, both}
 use Rattle.model.specs.Answer.{Answer, gives, refused, lent}
 use Rattle.model.specs.File.{State, full}
 use Rattle.model.specs.Calls as calls
-use Rattle.model.specs.Formed.{WF, formed_says}
+use Rattle.model.proofs.Formed.{WF, formed_says}
 use Rattle.model.specs.Snapshot.{encode, same_bytes, decode, longest_snapshot}
-use Rattle.model.specs.SnapshotLaws.{full_fits}
-use Rattle.model.specs.Reading.{as_read, same_eq, eq_same, decode_sound, decode_encode}
+use Rattle.model.proofs.SnapshotLaws.{full_fits}
+use Rattle.model.proofs.Reading.{as_read, same_eq, eq_same, decode_sound, decode_encode}
 use Rattle.answers.specs.declared.Outcome.TheVariants.{Done}
 use Rattle.answers.specs.Outcome.{outcome_of}
 use Rattle.store.specs.declared.Store.{Store}

@@ -1,4 +1,6 @@
 // Reads snapshots back. Bytes are a snapshot exactly if the store parsed from them is well-formed and writes these very bytes.
+#![tactic(auto)]
+
 ghost use Rattle.std.specs.Prelude.{◌≡◌};
 ghost use Rattle.model.specs.File.{full, fresh};
 ghost use Rattle.model.specs.Calls as calls;

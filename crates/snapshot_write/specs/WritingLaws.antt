@@ -19,9 +19,9 @@ use Rattle.lemmas.specs.Laying.{put_next, sorted_length, sorted_places, map_plac
 use Rattle.model.specs.Answer.{Answer, gives, refused, first_of, ◌⇒◌, lent}
 use Rattle.model.specs.File.{File, State, full, level, numbers, well_formed, good_file, good_counters, level_count, max_files}
 use Rattle.model.specs.Calls as calls
-use Rattle.model.specs.Formed.{formed_says}
+use Rattle.model.proofs.Formed.{formed_says}
 use Rattle.model.specs.Snapshot.{by_number, write_file, entries, write_entry, section, write_level, five_of, encode, longest_snapshot, counters_long, fresh_long, count_long, number_long}
-use Rattle.model.specs.SnapshotLaws.{section_length, encode_most}
+use Rattle.model.proofs.SnapshotLaws.{section_length, encode_most}
 use Rattle.counters.specs.Counters.{counters_of}
 use Rattle.records.specs.declared.FileRecord.{FileRecord}
 use Rattle.records.specs.Record.{file_of, sound_record, well_record, past}

@@ -1,4 +1,6 @@
 // Writes snapshots into lent bytes: counters, pointers by rising level, then each level's files by rising number.
+#![tactic(auto)]
+
 ghost use Rattle.std.specs.Prelude.{◌≡◌, true, map, ◌+◌, ◌≤◌, length};
 ghost use Rattle.std.proofs.Math.Seq.{slice};
 ghost use Rattle.lemmas.specs.Lists.{join, all};

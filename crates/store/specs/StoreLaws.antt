@@ -15,7 +15,7 @@ use Rattle.lemmas.specs.Each.{Each}
 use Rattle.model.specs.Answer.{Answer, refused}
 use Rattle.model.specs.Key.{good_key}
 use Rattle.model.specs.File.{State, full, level, numbers, total, well_formed, good_files, good_pointer, good_counters, level_count, max_files}
-use Rattle.model.specs.Formed.{formed_says}
+use Rattle.model.proofs.Formed.{formed_says}
 use Rattle.keys.specs.Key.{key_of, key_record, sound_key}
 use Rattle.keys.specs.KeyLaws as key
 use Rattle.counters.specs.Counters.{counters_of, counters_record}

@@ -1,4 +1,6 @@
 // The store by value: files level by level, pointers and counters. Checks whether a store is well-formed, and returns it unchanged with a refusal.
+#![tactic(auto)]
+
 ghost use Rattle.std.specs.Prelude.{◌≡◌, ◌&&◌, ◌≤◌, ◌<◌, get_or};
 ghost use Rattle.lemmas.specs.Lists.{all};
 ghost use Rattle.model.specs.File.{full, fresh, good_counters, max_files};

@@ -1,4 +1,6 @@
 // The counter calls: file numbers handed out, given back and marked as used, and counters set.
+#![tactic(auto)]
+
 ghost use Rattle.std.specs.Prelude.{◌≡◌};
 ghost use Rattle.model.specs.File.{full};
 ghost use Rattle.model.specs.Counters as model;

@@ -7,7 +7,7 @@ use borrow.Author.Rules.{rules}
 use lib.ListN.{length, replicate}
 use Rattle.model.specs.File.{full, key_room}
 use Rattle.model.specs.Snapshot.{same_bytes, write_file, file_long}
-use Rattle.model.specs.SnapshotLaws.{file_most}
+use Rattle.model.proofs.SnapshotLaws.{file_most}
 use Rattle.records.specs.Record.{file_of}
 use Rattle.records.specs.RecordLaws.{well_says}
 use Rattle.patch_list.specs.FoundLaws.{laid_front}

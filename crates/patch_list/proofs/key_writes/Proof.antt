@@ -7,7 +7,7 @@ use borrow.Author.Rules.{rules}
 use lib.ListN.{length, replicate}
 use Rattle.model.specs.File.{key_room}
 use Rattle.model.specs.Snapshot.{same_bytes, write_key, byte_long}
-use Rattle.model.specs.SnapshotLaws.{write_key_length}
+use Rattle.model.proofs.SnapshotLaws.{write_key_length}
 use Rattle.keys.specs.Key.{key_of}
 use Rattle.keys.specs.KeyLaws.{key_of_length}
 use Rattle.patch_list.specs.FoundLaws.{laid_front}

@@ -1,7 +1,7 @@
 -- `size_asked` meets its contract: by the bytes of a look at a well-formed store, the level to compact is that of the state. Assumes nothing.
 use Rattle.std.proofs.Common.{◌≡◌, true, ◌<◌, ◌∙◌, ℕ, List, arith, ap, sym, subst}
 use Rattle.model.specs.File.{full, level_count}
-use Rattle.model.specs.Formed.{formed_says}
+use Rattle.model.proofs.Formed.{formed_says}
 use Rattle.model.specs.Score.{level_to_compact}
 use Rattle.store.specs.declared.Store.{Store}
 use Rattle.store.specs.Store.{state_of, well_store, look_of, StoreShape}

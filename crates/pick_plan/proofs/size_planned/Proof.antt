@@ -6,7 +6,7 @@ use native.Mathlib.Omega.{arith}
 use borrow.Author.Rules.{rules}
 use Rattle.model.specs.Answer.{Answer}
 use Rattle.model.specs.File.{full, last_level, max_word}
-use Rattle.model.specs.Formed.{formed_says}
+use Rattle.model.proofs.Formed.{formed_says}
 use Rattle.model.specs.Pick as model
 use Rattle.model.specs.Score.{score, level_to_compact, due, reported}
 use Rattle.answers.specs.declared.Outcome.TheVariants.{Done}

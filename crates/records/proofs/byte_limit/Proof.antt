@@ -10,7 +10,7 @@ use Rattle.model.specs.File.{full, level_count}
 use Rattle.lemmas.specs.Lists.{up_from}
 use Rattle.lemmas.specs.Slices.{get_or_map}
 use Rattle.model.specs.Score.{byte_limit}
-use Rattle.model.specs.ScoreLaws.{limits_are}
+use Rattle.model.proofs.ScoreLaws.{limits_are}
 use Rattle.records.specs.Record.{limit_of}
 use Rattle.records.proofs.byte_limit.Statement.{statement}
 use Rattle.records.proofs.byte_limit.Tie as tie

@@ -9,7 +9,7 @@ use lib.ListN.{length, get_or}
 use Rattle.model.specs.File.{max_files}
 use Rattle.model.specs.Key.{before}
 use Rattle.model.specs.Range.{low_key, high_key}
-use Rattle.model.specs.RangeLaws.{smallest_of, largest_of}
+use Rattle.model.proofs.RangeLaws.{smallest_of, largest_of}
 use Rattle.keys.specs.Key.{key_of, key_record}
 use Rattle.records.specs.Run.{run, ends_of}
 use Rattle.records.specs.RecordLaws.{run_room, low_turn, low_ended, low_first, high_turn, high_ended, high_first, ends_none}

@@ -12,7 +12,7 @@ use Rattle.lemmas.specs.Slices.{put, drop_view, view_end, sum_turn}
 use Rattle.lemmas.specs.Laying.{part_laid, part_length, none_laid, none_length}
 use Rattle.model.specs.File.{max_files}
 use Rattle.model.specs.Snapshot.{write_file}
-use Rattle.model.specs.SnapshotLaws.{section_length}
+use Rattle.model.proofs.SnapshotLaws.{section_length}
 use Rattle.records.specs.Record.{file_of, past}
 use Rattle.pick_answer.specs.PickedLaws.{well_room}
 use Rattle.pick_answer.proofs.Shape.{shape, words}

@@ -12,7 +12,7 @@ use Rattle.model.specs.Snapshot.{write_key, byte_long}
 use Rattle.keys.specs.Key.{key_of}
 use Rattle.keys.specs.KeyLaws.{key_of_at}
 use Rattle.lemmas.specs.Laying.{put_next}
-use Rattle.model.specs.SnapshotLaws.{write_key_length}
+use Rattle.model.proofs.SnapshotLaws.{write_key_length}
 use Rattle.snapshot_parts.specs.LayingLaws.{key_long}
 use Rattle.snapshot_parts.proofs.put_key.Statement.{statement}
 use Rattle.snapshot_parts.proofs.put_key.Tie as tie

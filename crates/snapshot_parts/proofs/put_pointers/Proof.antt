@@ -17,7 +17,7 @@ use Rattle.keys.specs.Key.{key_of}
 use Rattle.store.specs.Store.{well_pointer}
 use Rattle.store.specs.StoreLaws.{past}
 use Rattle.lemmas.specs.Laying.{part_laid, part_length, none_laid, none_length}
-use Rattle.model.specs.SnapshotLaws.{section_length}
+use Rattle.model.proofs.SnapshotLaws.{section_length}
 use Rattle.snapshot_parts.specs.LayingLaws.{pointer_short, write_entry_parts, entry_laid, section_laid, set_from, set_here, set_later, set_over}
 use Rattle.snapshot_parts.proofs.put_pointers.Statement.{statement}
 use Rattle.snapshot_parts.proofs.put_pointers.Tie as tie

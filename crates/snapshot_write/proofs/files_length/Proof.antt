@@ -16,7 +16,7 @@ use Rattle.model.specs.Snapshot.{write_file, file_long}
 use Rattle.records.specs.Record.{file_of, well_record, past, Shaped}
 use Rattle.records.proofs.Shape.{all_shaped}
 use Rattle.lemmas.specs.Laying.{part_length, none_length}
-use Rattle.model.specs.SnapshotLaws.{write_file_length}
+use Rattle.model.proofs.SnapshotLaws.{write_file_length}
 use Rattle.snapshot_parts.specs.LayingLaws.{key_long, record_short}
 use Rattle.snapshot_write.proofs.files_length.Statement.{statement}
 use Rattle.snapshot_write.proofs.files_length.Tie as tie

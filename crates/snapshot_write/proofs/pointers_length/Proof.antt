@@ -16,7 +16,7 @@ use Rattle.keys.specs.Key.{key_of}
 use Rattle.store.specs.Store.{well_pointer, PointerShaped}
 use Rattle.store.specs.StoreLaws.{past}
 use Rattle.lemmas.specs.Laying.{part_length, none_length}
-use Rattle.model.specs.SnapshotLaws.{write_entry_length}
+use Rattle.model.proofs.SnapshotLaws.{write_entry_length}
 use Rattle.snapshot_parts.specs.LayingLaws.{key_long, pointer_short, set_from, set_here, set_later, set_over}
 use Rattle.snapshot_write.proofs.Shape.{pointers_shaped}
 use Rattle.snapshot_write.proofs.pointers_length.Statement.{statement}

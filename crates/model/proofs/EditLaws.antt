@@ -18,8 +18,6 @@ use Rattle.model.specs.KeyLaws.{before_order}
 use Rattle.model.specs.Answer.{gives, ◌⇒◌}
 use Rattle.model.specs.File.{Profile, File, State, numbers, by_smallest, max_size, no_collision, levelwise, well_formed}
 use Rattle.model.specs.Edit.{Deletion, Addition, Pointer, Edit, added, deletes, adds, left_deleted, survivors, survivors_from, pointed, applied, too_many, bad_log, pointer_refusals, deletion_refusals, addition_refusals, entry_refusals, result_refusals, edit}
-use Rattle.model.specs.Counters.{last}
-use Rattle.model.specs.Snapshot.{entries}
 use Rattle.model.specs.AnswerLaws.{NoneApplies, first_of_gives, first_of_passes, none_cons, none_nil, none_both}
 
 -- the order of files by smallest key is a strict weak order

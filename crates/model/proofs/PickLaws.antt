@@ -20,12 +20,12 @@ use Rattle.model.specs.Score.{byte_limit, score, level_to_compact, due, reported
 use Rattle.model.specs.Range.{Range, between, overlaps, Within, widen, overlapping, low_key, high_key, range_of}
 use Rattle.model.specs.Pick.{first_file, start_file, size_inputs, up_to, manual_inputs, Cause, by_size, manual, Picked, Pick, grand_of, grows, grown_first, complete, bad_maximum, size_pick, manual_pick}
 use Rattle.model.specs.AnswerLaws.{first_of_gives}
-use Rattle.model.specs.RangeLaws.{overlaps_says, overlaps_mono, widen_least, smallest_of, largest_of, low_fold, high_fold, lowest, highest}
-use Rattle.model.specs.Formed.{WF, formed_says, good_file_says, good_file_order}
+use Rattle.model.proofs.RangeLaws.{overlaps_says, overlaps_mono, widen_least, smallest_of, largest_of, low_fold, high_fold, lowest, highest}
+use Rattle.model.proofs.Formed.{WF, formed_says, good_file_says, good_file_order}
 use Rattle.model.specs.Completion.{completed, completed_at, inputs}
-use Rattle.model.specs.ScoreLaws.{ten_pow}
-use Rattle.model.specs.LineLaws.{Line, level_line}
-use Rattle.model.specs.CompletionLaws.{completed_run, completed_contains, completed_empty, completed_more, overlapping_run, inputs_run}
+use Rattle.model.proofs.ScoreLaws.{ten_pow}
+use Rattle.model.proofs.LineLaws.{Line, level_line}
+use Rattle.model.proofs.CompletionLaws.{completed_run, completed_contains, completed_empty, completed_more, overlapping_run, inputs_run}
 
 -- Laws of picks: what an accepted pick returns, that its inputs are files of their levels, and that it keeps a state well-formed. Assumes nothing.
 

@@ -19,14 +19,14 @@ use Rattle.model.specs.Key.{Key}
 use Rattle.model.specs.File.{Profile, File, State, level, max_counter, good_file, good_pointer, Counters, full}
 use Rattle.model.specs.Snapshot.{five_of, same_bytes, write_key, write_file, section, Read, ◌>>=◌, give, read_number, read_key, read_file, read_section, byte_long, number_long, counter_count}
 use Rattle.model.specs.KeyLaws.{good_key_says}
-use Rattle.model.specs.Formed.{WF}
-use Rattle.model.specs.SnapshotLaws.{Fits, writable, full_fits}
-use Rattle.model.specs.Reading.{same_eq, eq_same, Reads, then, gives_it, reads_as, reads_number, reads_key, reads_file, reads_section}
+use Rattle.model.proofs.Formed.{WF}
+use Rattle.model.proofs.SnapshotLaws.{Fits, writable, full_fits}
+use Rattle.model.proofs.Reading.{same_eq, eq_same, Reads, then, gives_it, reads_as, reads_number, reads_key, reads_file, reads_section}
 use Rattle.model.specs.Difference.{Difference, only_left, only_right, changed, pointer_is, counter_is, place, earlier, counter_at, differences, good_difference, good_list, Listed}
 use Rattle.model.specs.DifferenceBytes.{section_of, key_of, write_difference, section_at, write_differences, read_file_of, read_file_difference, pointer_of, read_pointer_difference, read_counter_difference, read_differences, accept_list, decode_list}
-use Rattle.model.specs.DifferenceListedLaws.{number_of, listed_sound, within, pointer_inside, counter_inside}
-use Rattle.model.specs.DifferenceOrderLaws.{earlier_order, differences_ordered}
-use Rattle.model.specs.DifferenceLengthLaws.{differences_few, pointer_short, pointer_good}
+use Rattle.model.proofs.DifferenceListedLaws.{number_of, listed_sound, within, pointer_inside, counter_inside}
+use Rattle.model.proofs.DifferenceOrderLaws.{earlier_order, differences_ordered}
+use Rattle.model.proofs.DifferenceLengthLaws.{differences_few, pointer_short, pointer_good}
 
 -- ---- there and back
 -- a profile whose lists can be kept: its snapshots can, and a section's count holds the most entries that a list has

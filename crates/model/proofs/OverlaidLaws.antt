@@ -27,20 +27,20 @@ use Rattle.lemmas.specs.OverlayLaws.{Left, overlay_is}
 use Rattle.model.specs.Key.{Key}
 use Rattle.model.specs.Answer.{◌⇒◌, refused, first_of}
 use Rattle.model.specs.File.{Profile, File, State, level, pointer, numbers, by_smallest, good_file, good_pointer, max_counter, full, well_formed}
-use Rattle.model.specs.Formed.{WF, formed_says}
+use Rattle.model.proofs.Formed.{WF, formed_says}
 use Rattle.model.specs.Snapshot.{by_number, Entry, entries, encode, read_state, accept, decode, five_of, from_five, longest_snapshot, counter_count}
-use Rattle.model.specs.SnapshotLaws.{Fits, Storable, entries_in_lem, entries_rise, entries_among, good_storable, level_few, encode_most}
-use Rattle.model.specs.Reading.{Reads, in_read_order, as_read, read_by_number, reads_state, eq_same}
+use Rattle.model.proofs.SnapshotLaws.{Fits, Storable, entries_in_lem, entries_rise, entries_among, good_storable, level_few, encode_most}
+use Rattle.model.proofs.Reading.{Reads, in_read_order, as_read, read_by_number, reads_state, eq_same}
 use Rattle.model.specs.Calls.{write, read, or_bad}
 use Rattle.model.specs.Difference.{Difference, only_left, only_right, changed, pointer_is, counter_is, place, earlier, names, counter_at, good_difference, good_list}
 use Rattle.model.specs.DifferenceBytes.{section_of, section_at, decode_list, on_given, fitting, patching}
 use Rattle.model.specs.Patched.{brings, patched_level, pointer_after, counter_by, counter_after, patched}
-use Rattle.model.specs.DifferenceListedLaws.{fails, within, numbers_once}
-use Rattle.model.specs.DifferenceOrderLaws.{earlier_order, place_same, earlier_files, in_turn}
-use Rattle.model.specs.PatchedLaws.{brings_says, patched_distinct, pointer_kept, counter_kept, patched_file, patched_pointer, pointer_after_lem}
-use Rattle.model.specs.DifferenceLengthLaws.{pointer_good}
-use Rattle.model.specs.DifferenceReadingLaws.{two_tests, section_in, good_list_says, decode_list_sound}
-use Rattle.model.specs.DifferingLaws.{snapshot_says, patching_both}
+use Rattle.model.proofs.DifferenceListedLaws.{fails, within, numbers_once}
+use Rattle.model.proofs.DifferenceOrderLaws.{earlier_order, place_same, earlier_files, in_turn}
+use Rattle.model.proofs.PatchedLaws.{brings_says, patched_distinct, pointer_kept, counter_kept, patched_file, patched_pointer, pointer_after_lem}
+use Rattle.model.proofs.DifferenceLengthLaws.{pointer_good}
+use Rattle.model.proofs.DifferenceReadingLaws.{two_tests, section_in, good_list_says, decode_list_sound}
+use Rattle.model.proofs.DifferingLaws.{snapshot_says, patching_both}
 
 -- the number that an entry of files names
 unfoldable pub number_named : Difference → ℕ

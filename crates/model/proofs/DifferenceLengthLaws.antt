@@ -22,11 +22,11 @@ use Rattle.model.specs.Key.{Key}
 use Rattle.model.specs.File.{Profile, File, State, level, pointer, good_pointer, full}
 use Rattle.model.specs.Snapshot.{write_key, write_file, section, byte_long, number_long, counter_count}
 use Rattle.model.specs.KeyLaws.{good_key_says}
-use Rattle.model.specs.Formed.{WF}
-use Rattle.model.specs.SnapshotLaws.{section_length, write_key_length, file_most}
+use Rattle.model.proofs.Formed.{WF}
+use Rattle.model.proofs.SnapshotLaws.{section_length, write_key_length, file_most}
 use Rattle.model.specs.Difference.{Difference, only_left, only_right, changed, pointer_is, counter_is, earlier, has_number, differs, same_pointer, counter_at, only_lefts, only_rights, changes, at_level, pointer_differences, counter_differences, unordered, differences}
 use Rattle.model.specs.DifferenceBytes.{section_of, key_of, write_difference, section_at, write_differences, longest_list}
-use Rattle.model.specs.DifferenceListedLaws.{number_there, differs_says}
+use Rattle.model.proofs.DifferenceListedLaws.{number_there, differs_says}
 
 -- ---- how long a list can be
 -- each entry weighed: at most a for a file that only the left has, at most c for one with the right's contents

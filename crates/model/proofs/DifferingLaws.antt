@@ -8,16 +8,16 @@ use Rattle.model.specs.Answer.{Answer, gives, refused, ◌⇒◌, first_of}
 use Rattle.model.specs.File.{Profile, State, full, well_formed}
 use Rattle.model.specs.Snapshot.{encode, decode}
 use Rattle.model.specs.Calls.{write, read, or_bad}
-use Rattle.model.specs.Formed.{WF, formed_says}
-use Rattle.model.specs.SnapshotLaws.{Fits}
-use Rattle.model.specs.Reading.{as_read, as_read_formed, decode_sound, decode_encode}
+use Rattle.model.proofs.Formed.{WF, formed_says}
+use Rattle.model.proofs.SnapshotLaws.{Fits}
+use Rattle.model.proofs.Reading.{as_read, as_read_formed, decode_sound, decode_encode}
 use Rattle.model.specs.Difference.{Difference, differences, good_list}
 use Rattle.model.specs.Patched.{patched}
 use Rattle.model.specs.DifferenceBytes.{write_differences, decode_list, on_given, fitting, differing, or_no_list, patching, longest_list}
-use Rattle.model.specs.DifferenceLaws.{nothing_listed, differences_read}
-use Rattle.model.specs.PatchedLaws.{patched_right, patched_bytes, patched_read}
-use Rattle.model.specs.DifferenceLengthLaws.{differences_few, list_most_bytes}
-use Rattle.model.specs.DifferenceReadingLaws.{ListFits, good_list_says, decode_list_back, differences_good, differences_back, lists_apart}
+use Rattle.model.proofs.DifferenceLaws.{nothing_listed, differences_read}
+use Rattle.model.proofs.PatchedLaws.{patched_right, patched_bytes, patched_read}
+use Rattle.model.proofs.DifferenceLengthLaws.{differences_few, list_most_bytes}
+use Rattle.model.proofs.DifferenceReadingLaws.{ListFits, good_list_says, decode_list_back, differences_good, differences_back, lists_apart}
 
 -- ---- the call that compares: for every input, its answer
 -- bytes laid into lent output that holds them

@@ -25,14 +25,14 @@ use Rattle.lemmas.specs.Rising.{up_from_rising, sort_rises, strict_join}
 use Rattle.lemmas.specs.CompareLaws.{CalledFor, at_left, at_right, at_both, compare_first, compare_second, compare_both, compare_sorted_in, compare_ordered}
 use Rattle.model.specs.Key.{Key}
 use Rattle.model.specs.File.{Profile, File, State, level, pointer, numbers}
-use Rattle.model.specs.Formed.{WF}
+use Rattle.model.proofs.Formed.{WF}
 use Rattle.model.specs.Snapshot.{by_number, Entry, entries, section, same_bytes, counter_count}
-use Rattle.model.specs.SnapshotLaws.{entries_from_lem}
+use Rattle.model.proofs.SnapshotLaws.{entries_from_lem}
 use Rattle.model.specs.Difference.{Difference, only_left, only_right, changed, pointer_is, counter_is, place, earlier, has_number, same_contents, differs, same_pointer, counter_at, only_lefts, only_rights, changes, at_level, pointer_differences, counter_differences, unordered, differences}
 use Rattle.model.specs.DifferenceBytes.{section_of, section_at, write_difference, write_differences}
-use Rattle.model.specs.DifferenceListedLaws.{number_there, number_of, same_file_lem, contents_own, differs_says, fails, numbers_once}
-use Rattle.model.specs.DifferenceOrderLaws.{earlier_order, level_place, pointer_place, counter_place, names_place, earlier_files, in_turn, differences_ordered}
-use Rattle.model.specs.DifferenceReadingLaws.{section_place, three_ordered}
+use Rattle.model.proofs.DifferenceListedLaws.{number_there, number_of, same_file_lem, contents_own, differs_says, fails, numbers_once}
+use Rattle.model.proofs.DifferenceOrderLaws.{earlier_order, level_place, pointer_place, counter_place, names_place, earlier_files, in_turn, differences_ordered}
+use Rattle.model.proofs.DifferenceReadingLaws.{section_place, three_ordered}
 
 -- what differs at a level, of both its lists by rising number
 unfoldable pub compared_level : ℕ → List File → List File → List Difference

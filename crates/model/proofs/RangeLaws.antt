@@ -4,14 +4,14 @@ use mathlib.Core.List.{List, [], ◌∷◌, Memᴰ as In}
 use Rattle.std.proofs.Math.Option.{Option, none, some}
 use Rattle.std.proofs.lemmas.Bool.{not-true, not-false}
 use Rattle.std.proofs.Common.{arith}
-use Rattle.lemmas.specs.Order.{StrictWeak, clash, asym, less, flip_order, on_order}
+use Rattle.lemmas.specs.Order.{StrictWeak, clash, asym, flip_order, on_order}
 use Rattle.lemmas.specs.Lists.{find}
 use Rattle.lemmas.specs.ListLaws.{and_left, and_right, both, find_some, find_none, tally, tally_le, tally_less, tally_none, all_in, least_of, is_least, find_least, neither, neither_left, neither_right}
 use Rattle.model.specs.Key.{Key, user, user_before, before}
 use Rattle.model.specs.KeyLaws.{user_before_order, before_order, user_same}
 use Rattle.model.specs.File.{File, by_smallest}
 use Rattle.model.specs.Range.{Range, overlaps, inside, Within, Closed, LeastWidening, earlier, later, stretch, sticks_out, widen_by, widen, is_lowest, is_highest, low_key, high_key}
-use Rattle.model.specs.EditLaws.{by_smallest_order}
+use Rattle.model.proofs.EditLaws.{by_smallest_order}
 
 -- ---- the order of user keys, with `a ≤ b` as `user_before b a ≡ false`
 -- a key is not before itself

@@ -17,9 +17,9 @@ use Rattle.lemmas.specs.Once.{Once, once_keep, once_append, once_finer, once_map
 use Rattle.model.specs.Snapshot.{counter_count}
 use Rattle.model.specs.Key.{Key}
 use Rattle.model.specs.File.{Profile, File, State, level, pointer, numbers}
-use Rattle.model.specs.Formed.{WF, distinct_level}
+use Rattle.model.proofs.Formed.{WF, distinct_level}
 use Rattle.model.specs.Difference.{Difference, only_left, only_right, changed, pointer_is, counter_is, place, earlier, names, has_number, differs, same_pointer, counter_at, only_lefts, only_rights, changes, at_level, pointer_differences, counter_differences, unordered, differences, Listed}
-use Rattle.model.specs.DifferenceListedLaws.{number_there, number_of, differs_says, fails, listed_sound, listed_complete}
+use Rattle.model.proofs.DifferenceListedLaws.{number_there, number_of, differs_says, fails, listed_sound, listed_complete}
 
 -- ---- the order
 -- the order of entries is a strict weak order

@@ -16,13 +16,13 @@ use Rattle.model.specs.Answer.{Answer, gives, refused}
 use Rattle.model.specs.File.{Profile, File, Counters, State, level, pointer, numbers, fresh, set_pointer, set_counters}
 use Rattle.model.specs.Edit.{Pointer, Edit, added, left_deleted, survivors, survivors_from, pointed, logged, applied, edit}
 use Rattle.model.specs.Counters.{CounterCall, counted, counter}
-use Rattle.model.specs.Range.{inside, high_key}
+use Rattle.model.specs.Range.{high_key}
 use Rattle.model.specs.Pick.{Pick, size_pick, manual_pick}
 use Rattle.model.specs.History.{Call, edits, picks_size, picks_range, counts, Event, did_edit, did_point, did_count, kept, kept_pick, after, did, did_pick, event, run, events, Unharmed, Stays, last_of, pointer_left, counters_left}
-use Rattle.model.specs.EditLaws.{survivors_in, deleted_goes, survivors_from_at, survivors_from_length, pointed_length, edit_accepted}
+use Rattle.model.proofs.EditLaws.{survivors_in, deleted_goes, survivors_from_at, survivors_from_length, pointed_length, edit_accepted}
 use Rattle.model.specs.CounterLaws.{count_accepted}
-use Rattle.model.specs.Formed.{distinct_level}
-use Rattle.model.specs.PickLaws.{pick_after_size, pick_after_range}
+use Rattle.model.proofs.Formed.{distinct_level}
+use Rattle.model.proofs.PickLaws.{pick_after_size, pick_after_range}
 
 -- ---- one call
 module _ (p : Profile) (s : State) (l : ℕ) (inside : l < length s.files) (f : File) where

@@ -18,8 +18,8 @@ use Rattle.model.specs.KeyLaws.{user_before_order, before_order, before_user, us
 use Rattle.model.specs.File.{File}
 use Rattle.model.specs.Range.{Range, overlaps, overlapping, high_key}
 use Rattle.model.specs.Completion.{older_than, follows, following, completed, completed_at, inputs, spans}
-use Rattle.model.specs.RangeLaws.{overlaps_says, largest_of, high_fold, highest}
-use Rattle.model.specs.LineLaws.{Line, line_rest, line_first, line_right, run_after_left, run_before_right, line_once}
+use Rattle.model.proofs.RangeLaws.{overlaps_says, largest_of, high_fold, highest}
+use Rattle.model.proofs.LineLaws.{Line, line_rest, line_first, line_right, run_after_left, run_before_right, line_once}
 
 -- ---- the tests
 -- one key sorts after another and has the same user key

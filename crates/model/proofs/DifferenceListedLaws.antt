@@ -23,8 +23,8 @@ use Rattle.lemmas.specs.Once.{in_any, in_join_map}
 use Rattle.model.specs.Key.{Key}
 use Rattle.model.specs.File.{Profile, File, State, level, pointer, numbers}
 use Rattle.model.specs.Snapshot.{five_of, same_bytes, counter_count}
-use Rattle.model.specs.Formed.{WF, distinct_level}
-use Rattle.model.specs.Reading.{same_eq, eq_same}
+use Rattle.model.proofs.Formed.{WF, distinct_level}
+use Rattle.model.proofs.Reading.{same_eq, eq_same}
 use Rattle.model.specs.Difference.{Difference, only_left, only_right, changed, pointer_is, counter_is, earlier, has_number, same_contents, differs, same_pointer, counter_at, only_lefts, only_rights, changes, at_level, pointer_differences, counter_differences, unordered, differences, Listed}
 
 -- ---- what the tests say

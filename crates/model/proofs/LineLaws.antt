@@ -16,7 +16,7 @@ use Rattle.lemmas.specs.Runs.{Run}
 use Rattle.model.specs.Key.{before}
 use Rattle.model.specs.KeyLaws.{before_order}
 use Rattle.model.specs.File.{Profile, File, State, level, apart, in_order, levelwise}
-use Rattle.model.specs.Formed.{WF, good_file_order}
+use Rattle.model.proofs.Formed.{WF, good_file_order}
 
 -- files in line: no file's largest key is before its smallest, and each file's largest is before the next one's smallest
 pub record Line (fs : List File) : Type 0 where

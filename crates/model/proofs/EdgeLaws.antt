@@ -15,11 +15,11 @@ use Rattle.model.specs.Range.{Range, overlaps, widen, overlapping, high_key, ran
 use Rattle.model.specs.Completion.{inputs}
 use Rattle.model.specs.Pick.{Cause, Picked, Pick, grand_of, complete, size_pick, manual_pick, input_deletions}
 use Rattle.model.specs.Question.{holds}
-use Rattle.model.specs.RangeLaws.{overlaps_says, inside_says, widen_least}
-use Rattle.model.specs.Formed.{WF, good_file_order}
-use Rattle.model.specs.LineLaws.{level_line}
-use Rattle.model.specs.CompletionLaws.{spans_says, NoOlderLeft, completed_none_left}
-use Rattle.model.specs.PickLaws.{complete_after, FormedAt, InLine, level_in_line, inputs_formed, grown_formed, Begun, size_begun, range_begun}
+use Rattle.model.proofs.RangeLaws.{overlaps_says, inside_says, widen_least}
+use Rattle.model.proofs.Formed.{WF, good_file_order}
+use Rattle.model.proofs.LineLaws.{level_line}
+use Rattle.model.proofs.CompletionLaws.{spans_says, NoOlderLeft, completed_none_left}
+use Rattle.model.proofs.PickLaws.{complete_after, FormedAt, InLine, level_in_line, inputs_formed, grown_formed, Begun, size_begun, range_begun}
 
 -- ---- at level 0, by the widening
 -- no file left has a user key in common with an input

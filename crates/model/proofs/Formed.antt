@@ -22,7 +22,7 @@ use Rattle.model.specs.File.{Profile, File, Counters, State, numbers, by_smalles
 use Rattle.model.specs.Edit.{Addition, Pointer, Edit, empty_edit, added, deletes, left_deleted, survivors, survivors_from, pointed, logged, applied, too_many, bad_log, edit}
 use Rattle.model.specs.Counters.{CounterCall, new, reuse, mark, last, manifest, previous, counted, counter_beyond, counter}
 use Rattle.model.specs.Snapshot.{five_of}
-use Rattle.model.specs.EditLaws.{by_smallest_order, survivors_in, survivors_ordered, survivors_from_length, pointed_length, PointerFits, AdditionFits, edit_accepted, edit_accepts}
+use Rattle.model.proofs.EditLaws.{by_smallest_order, survivors_in, survivors_ordered, survivors_from_length, pointed_length, PointerFits, AdditionFits, edit_accepted, edit_accepts}
 use Rattle.model.specs.CounterLaws.{count_accepted}
 
 -- well-formed, part by part

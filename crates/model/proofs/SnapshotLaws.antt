@@ -1,5 +1,5 @@
 -- A snapshot determines the state that it was written from, since each part shows where it ends. Assumes nothing.
-use Rattle.std.specs.Prelude.{ℕ, zero, suc, ◌+◌, ◌*◌, ◌^◌, ◌<◌, ◌≤◌, ◌≡◌, refl, ◌↔◌, Bool, true, false, ltb, length, get_or, set}
+use Rattle.std.specs.Prelude.{ℕ, zero, suc, ◌+◌, ◌*◌, ◌^◌, ◌<◌, ◌≤◌, ◌≡◌, refl, ◌↔◌, Bool, true, false, ltb, length, get_or}
 use Rattle.std.proofs.Common.{ap, sym, ◌∙◌, subst, ltb-true, ltb-false, length-append, mul-le-mul_right, add-mul, arith}
 use Rattle.std.proofs.Math.Path.{fun_ext}
 use mathlib.Core.List.Memᴰ.{head as here}
@@ -15,10 +15,10 @@ use Rattle.lemmas.specs.Little.{bytes, bytes_length, bytes_apart}
 use Rattle.lemmas.specs.UpFrom.{made_at}
 use Rattle.lemmas.specs.Rising.{rising, rising_cons}
 use Rattle.model.specs.Key.{Key, good_key, trailer_bytes}
-use Rattle.model.specs.File.{Profile, full, File, Counters, State, level, max_counter, max_size, good_file, apart, good_pointer, level_count}
+use Rattle.model.specs.File.{Profile, full, File, Counters, State, level, max_counter, max_size, good_file, good_pointer, level_count}
 use Rattle.model.specs.Snapshot.{by_number, write_key, write_file, Entry, entries, write_entry, section, write_level, five_of, encode, file_long, entry_long, fresh_long, longest_snapshot, byte_long, count_long, number_long}
 use Rattle.model.specs.KeyLaws.{good_key_says}
-use Rattle.model.specs.Formed.{WF, good_file_says}
+use Rattle.model.proofs.Formed.{WF, good_file_says}
 
 -- a way of writing from which the end of a part is known, whatever follows
 pub record Delimited {A : Type 0} (Good : A → Type 0) (w : A → List ℕ) : Type 0 where

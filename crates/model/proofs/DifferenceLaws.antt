@@ -15,13 +15,13 @@ use Rattle.lemmas.specs.Once.{none_in}
 use Rattle.model.specs.Key.{Key}
 use Rattle.model.specs.File.{Profile, File, State, level, pointer, by_smallest, Counters}
 use Rattle.model.specs.Snapshot.{by_number, five_of, encode}
-use Rattle.model.specs.Formed.{WF}
-use Rattle.model.specs.SnapshotLaws.{SameWritten, encode_apart, Fits, storable, same_bytes_lem}
+use Rattle.model.proofs.Formed.{WF}
+use Rattle.model.proofs.SnapshotLaws.{SameWritten, encode_apart, Fits, storable, same_bytes_lem}
 use Rattle.model.specs.ByNumber.{one_number, same_by_number}
-use Rattle.model.specs.Reading.{in_read_order, as_read, as_read_formed}
+use Rattle.model.proofs.Reading.{in_read_order, as_read, as_read_formed}
 use Rattle.model.specs.Difference.{Difference, only_left, only_right, changed, pointer_is, counter_is, has_number, same_contents, same_pointer, counter_at, differences, Listed}
-use Rattle.model.specs.DifferenceListedLaws.{number_there, number_of, same_file_lem, contents_own, pointer_says, listed_sound, within, numbers_once, pointers_by_level, counters_by_place, listed_complete}
-use Rattle.model.specs.DifferenceOrderLaws.{differences_ordered, differences_determined}
+use Rattle.model.proofs.DifferenceListedLaws.{number_there, number_of, same_file_lem, contents_own, pointer_says, listed_sound, within, numbers_once, pointers_by_level, counters_by_place, listed_complete}
+use Rattle.model.proofs.DifferenceOrderLaws.{differences_ordered, differences_determined}
 
 -- ---- nothing is listed exactly between states that write the same bytes
 module _ (s t : State) where

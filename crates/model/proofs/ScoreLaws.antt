@@ -15,12 +15,12 @@ use Rattle.std.specs.Float.Ieee.{of_int, div, round, up, down, low}
 use Rattle.std.specs.Float.Ieee.Exact.{HasValue, round_exact}
 use Rattle.std.specs.Float.Ieee.Scale.{round_same}
 use Rattle.std.specs.Float.Ieee.Fits.{down_pos}
-use Rattle.lemmas.specs.Order.{clash, same}
+use Rattle.lemmas.specs.Order.{clash}
 use Rattle.lemmas.specs.Lists.{all, find, sum, up_from}
 use Rattle.lemmas.specs.ListLaws.{all_in, join_in, join_length, up_from_in, find_up_from}
 use Rattle.model.specs.File.{Profile, File, State, level, total, max_size, level_count}
 use Rattle.model.specs.Score.{Score, lower, byte_limit, score, scored, has_greatest, level_to_compact, reported}
-use Rattle.model.specs.Formed.{WF, good_file_says}
+use Rattle.model.proofs.Formed.{WF, good_file_says}
 
 -- ---- fractions with a denominator above 0
 -- the denominator is above 0

@@ -24,14 +24,14 @@ use Rattle.lemmas.specs.Once.{Once, in_any, in_join_map, once_keep, once_append,
 use Rattle.model.specs.Key.{Key}
 use Rattle.model.specs.File.{Profile, File, State, level, pointer, by_smallest, numbers}
 use Rattle.model.specs.Snapshot.{by_number, five_of, from_five, encode, counter_count}
-use Rattle.model.specs.Formed.{WF}
+use Rattle.model.proofs.Formed.{WF}
 use Rattle.model.specs.ByNumber.{one_number, same_by_number}
-use Rattle.model.specs.Reading.{in_read_order, as_read, as_read_formed, as_read_bytes}
+use Rattle.model.proofs.Reading.{in_read_order, as_read, as_read_formed, as_read_bytes}
 use Rattle.model.specs.Difference.{Difference, only_left, only_right, changed, pointer_is, counter_is, place, earlier, names, same_pointer, counter_at, differences, Listed}
 use Rattle.model.specs.Patched.{brings, patched_level, pointer_by, pointer_after, counter_by, counter_after, patched}
-use Rattle.model.specs.DifferenceListedLaws.{number_there, pointer_says, fails, listed_sound, numbers_once, listed_complete}
-use Rattle.model.specs.DifferenceOrderLaws.{earlier_order, place_same, files_place, names_place, differences_once}
-use Rattle.model.specs.DifferenceLaws.{left_fate, right_fate, level_members}
+use Rattle.model.proofs.DifferenceListedLaws.{number_there, pointer_says, fails, listed_sound, numbers_once, listed_complete}
+use Rattle.model.proofs.DifferenceOrderLaws.{earlier_order, place_same, files_place, names_place, differences_once}
+use Rattle.model.proofs.DifferenceLaws.{left_fate, right_fate, level_members}
 
 -- ---- a list applied to a left state
 -- an item put in front of nothing, or not

@@ -1,5 +1,5 @@
 -- Demand 3: two histories of a fresh store write the same bytes exactly when they leave the same files, pointers and counters. Assumes nothing.
-use Rattle.std.specs.Prelude.{ℕ, zero, suc, ◌-◌, ◌^◌, ◌<◌, ◌≤◌, ◌≡◌, refl, ◌↔◌, Bool, true, false, ltb, get_or, replicate}
+use Rattle.std.specs.Prelude.{ℕ, zero, suc, ◌<◌, ◌≤◌, ◌≡◌, refl, ◌↔◌, Bool, true, false, ltb, get_or, replicate}
 use Rattle.std.proofs.Common.{ap, sym, ◌∙◌, subst, ltb-true, ltb-false, ext_get_or, arith}
 use mathlib.Core.List.Memᴰ.{head as here}
 use mathlib.Core.List.Memᴰ.{not-nil}
@@ -8,7 +8,6 @@ use mathlib.Core.List.{List, [], ◌∷◌, Memᴰ as In}
 use Rattle.std.proofs.Math.Option.{Option, none}
 use Rattle.std.proofs.Math.ListN.{get_or-eq_default}
 use Rattle.std.proofs.lemmas.List.{length-replicate}
-use Rattle.lemmas.specs.Order.{same}
 use Rattle.lemmas.specs.Lists.{sort, chain, join, distinct}
 use Rattle.lemmas.specs.ListLaws.{both, sort_in, get_or_same, in_replicate, join_empties}
 use Rattle.model.specs.Key.{Key}
@@ -19,11 +18,11 @@ use Rattle.model.specs.Counters.{counter}
 use Rattle.model.specs.Pick.{Pick, size_pick, manual_pick}
 use Rattle.model.specs.Snapshot.{by_number, five_of, encode}
 use Rattle.model.specs.History.{Call, edits, picks_size, picks_range, counts, kept, kept_pick, after, run, events, pointer_left, SameLeft}
-use Rattle.model.specs.Formed.{WF, distinct_level, Words, edit_keeps, count_keeps}
-use Rattle.model.specs.PickLaws.{size_keeps, range_keeps}
-use Rattle.model.specs.SnapshotLaws.{SameWritten, encode_apart, Fits, storable, same_bytes_lem}
+use Rattle.model.proofs.Formed.{WF, distinct_level, Words, edit_keeps, count_keeps}
+use Rattle.model.proofs.PickLaws.{size_keeps, range_keeps}
+use Rattle.model.proofs.SnapshotLaws.{SameWritten, encode_apart, Fits, storable, same_bytes_lem}
 use Rattle.model.specs.ByNumber.{same_by_number}
-use Rattle.model.specs.HistoryLaws.{fresh_stays, run_counters, run_pointers}
+use Rattle.model.proofs.HistoryLaws.{fresh_stays, run_counters, run_pointers}
 
 -- ---- well-formed throughout
 -- every file number in a call fits 64 bits, as code passes it

@@ -18,9 +18,9 @@ use Rattle.lemmas.specs.Little.{number, bytes, bytes_length, bytes_number}
 use Rattle.model.specs.Key.{Key, before}
 use Rattle.model.specs.File.{Profile, File, State, level, numbers, by_smallest, apart, in_order, levelwise, well_formed, level_count}
 use Rattle.model.specs.Snapshot.{by_number, write_key, write_file, Entry, entries, write_entry, section, write_level, five_of, encode, Read, Reader, onward, ◌>>=◌, give, times, read_bytes, read_number, read_key, read_file, read_section, read_level, read_pointer, placed, from_five, read_state, same_bytes, accept, decode, byte_long, count_long, number_long}
-use Rattle.model.specs.EditLaws.{by_smallest_order}
-use Rattle.model.specs.Formed.{WF, formed_says, good_file_order, numbers_append, distinct_level, apart_sorted, apart_ties}
-use Rattle.model.specs.SnapshotLaws.{Writable, WritableEntry, WritableLevel, Storable, Fits, storable, same_bytes_lem}
+use Rattle.model.proofs.EditLaws.{by_smallest_order}
+use Rattle.model.proofs.Formed.{WF, formed_says, good_file_order, numbers_append, distinct_level, apart_sorted, apart_ties}
+use Rattle.model.proofs.SnapshotLaws.{Writable, WritableEntry, WritableLevel, Storable, Fits, storable, same_bytes_lem}
 use Rattle.model.specs.ByNumber.{sorted_one, sort_distinct, same_by_number}
 
 -- ---- a state that is read writes the same bytes

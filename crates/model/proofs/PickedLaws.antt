@@ -16,12 +16,12 @@ use Rattle.model.specs.Completion.{inputs}
 use Rattle.model.specs.Pick.{Cause, Picked, Pick, grand_of, grown_first, complete, bad_maximum, size_pick, manual_pick, good_level, good_picked}
 use Rattle.model.specs.Question.{passed, Cutter, cut_step}
 use Rattle.model.specs.Calls.{counts_up_to, good_cutter}
-use Rattle.model.specs.Formed.{WF, good_file_order, distinct_level}
-use Rattle.model.specs.ScoreLaws.{level_is}
-pub use Rattle.model.specs.LineLaws.{levelwise_at}
-use Rattle.model.specs.LineLaws.{level_line}
-use Rattle.model.specs.CompletionLaws.{inputs_run}
-use Rattle.model.specs.PickLaws.{range_accepted, overlapping_sub, FormedAt, level_in_line, formed_sub, grown_formed, grown_nonempty, Begun, size_begun, range_begun}
+use Rattle.model.proofs.Formed.{WF, good_file_order, distinct_level}
+use Rattle.model.proofs.ScoreLaws.{level_is}
+pub use Rattle.model.proofs.LineLaws.{levelwise_at}
+use Rattle.model.proofs.LineLaws.{level_line}
+use Rattle.model.proofs.CompletionLaws.{inputs_run}
+use Rattle.model.proofs.PickLaws.{range_accepted, overlapping_sub, FormedAt, level_in_line, formed_sub, grown_formed, grown_nonempty, Begun, size_begun, range_begun}
 
 -- Calls accept what other calls return: a picked answer is well-formed, and the cutter keeps its memory well-formed. Assumes nothing.
 
