@@ -4,17 +4,4 @@ pub mod Recording
 pub mod Replay
 pub mod Takes
 pub mod Held
-pub mod FormLaws
-pub mod TakesLaws
-pub mod HeldLaws
-pub mod FormExactLaws
-pub mod GivenLaws
-pub mod RecordingLaws
-pub mod RecordingExactLaws
-pub mod ReadBackLaws
-pub mod ReplayLaws
-pub mod ReplayBytesLaws
-pub mod EntryLaws
-pub mod ResumeLaws
-pub mod RecorderLaws
 pub mod ReplayExamples

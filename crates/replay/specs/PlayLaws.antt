@@ -21,15 +21,15 @@ use Rattle.model.proofs.Formed.{formed_says}
 use Rattle.model.specs.History.{Call, after}
 use Rattle.model_replay.specs.Given.{Given, given}
 use Rattle.model_replay.specs.Form.{pair, shaped}
-use Rattle.model_replay.specs.FormLaws.{written_once}
-use Rattle.model_replay.specs.FormExactLaws.{times_long}
+use Rattle.model_replay.proofs.FormLaws.{written_once}
+use Rattle.model_replay.proofs.FormExactLaws.{times_long}
 use Rattle.model_replay.specs.Recording.{calls_long, setting_count, asks_size, Recorded, Recording, call_of, asked_form, given_form, recorded_form, read_recording}
-use Rattle.model_replay.specs.RecordingLaws.{given_faithful, record_says}
-use Rattle.model_replay.specs.RecorderLaws.{given_fits}
-use Rattle.model_replay.specs.EntryLaws.{First, first_read, record_parts, calls_read}
+use Rattle.model_replay.proofs.RecordingLaws.{given_faithful, record_says}
+use Rattle.model_replay.proofs.RecorderLaws.{given_fits}
+use Rattle.model_replay.proofs.EntryLaws.{First, first_read, record_parts, calls_read}
 use Rattle.model_replay.specs.Replay.{Mismatch, Outcome, ended, differs, replayed, replayed_from}
-use Rattle.model_replay.specs.ReplayLaws.{replayed_passes, replayed_stops}
-use Rattle.model_replay.specs.ReplayBytesLaws.{recordable_says, asked_words}
+use Rattle.model_replay.proofs.ReplayLaws.{replayed_passes, replayed_stops}
+use Rattle.model_replay.proofs.ReplayBytesLaws.{recordable_says, asked_words}
 use Rattle.model_replay.specs.Takes.{asked_takes, given_takes}
 use Rattle.snapshot_parse.specs.Parsing.{number_in}
 use Rattle.snapshot_parse.specs.BackLaws.{number_back, number_past}

@@ -23,8 +23,8 @@ use Rattle.model.specs.Pick.{size_pick, manual_pick}
 use Rattle.model.specs.Snapshot.{number_long, same_bytes, decode}
 use Rattle.model.specs.History.{Call, edits, picks_size, picks_range, counts}
 use Rattle.model_replay.specs.Replay.{Mismatch, Outcome, ended, differs, replayed_from, concluded, replay_of, replay, leaves}
-use Rattle.model_replay.specs.ReplayLaws.{replayed_ends, replayed_differs}
-use Rattle.model_replay.specs.ReplayBytesLaws.{left_formed, read_fits, read_both, place_fits}
+use Rattle.model_replay.proofs.ReplayLaws.{replayed_ends, replayed_differs}
+use Rattle.model_replay.proofs.ReplayBytesLaws.{left_formed, read_fits, read_both, place_fits}
 use Rattle.model_replay.specs.Given.{Given, given}
 use Rattle.model_replay.specs.Held.{held_key}
 use Rattle.model_replay.specs.Recording.{calls_long, previous_tag, Recording, call_of, read_recording}

@@ -29,10 +29,10 @@ use Rattle.model.proofs.Demand3.{WordCalls, run_formed}
 use Rattle.model.specs.History.{edits, picks_size, picks_range, counts, kept, kept_pick, after, run}
 use Rattle.model_replay.specs.Given as said
 use Rattle.model_replay.specs.Given.{Given, accepted, picked, choice_of, count_says, given}
-use Rattle.model_replay.specs.GivenLaws.{given_new}
+use Rattle.model_replay.proofs.GivenLaws.{given_new}
 use Rattle.model_replay.specs.Held as blank
 use Rattle.model_replay.specs.Held.{held_key, held_pointer, held_addition, held_entries, held_edit}
-use Rattle.model_replay.specs.HeldLaws.{held_alike, held_range}
+use Rattle.model_replay.proofs.HeldLaws.{held_alike, held_range}
 use Rattle.model_replay.specs.Recording.{previous_tag}
 use Rattle.answers.specs.Outcome.{outcome_of}
 use Rattle.keys.specs.Key.{key_of, key_record}

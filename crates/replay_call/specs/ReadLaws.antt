@@ -20,11 +20,11 @@ use Rattle.model.specs.File.{full, key_room}
 use Rattle.model.specs.Edit.{empty_edit}
 use Rattle.model.specs.Snapshot.{byte_long, count_long, number_long, keys_at, Read, Reader, onward, ◌>>=◌, give, times, read_bytes, read_number, read_key, read_file}
 use Rattle.model_replay.specs.Form.{Form, num, key_form, file_form, got, pair, shaped, many, unread, guarded, only}
-use Rattle.model_replay.specs.FormExactLaws.{bind_says, got_says, times_long}
+use Rattle.model_replay.proofs.FormExactLaws.{bind_says, got_says, times_long}
 use Rattle.model_replay.specs.Held.{held_key}
 use Rattle.model_replay.specs.Recording.{pointer_form, deletion_form, addition_form, first_number, log_form, edit_form}
 use Rattle.model_replay.specs.Takes.{Takes, more, on_taken, never, takes, and_then, repeated, counted, key_takes, part_takes, section_takes, log_takes, edit_takes}
-use Rattle.model_replay.specs.TakesLaws.{Measures, ended, number_measured, key_measured, times_measured, pointer_measured, deletion_measured, addition_measured, log_measured}
+use Rattle.model_replay.proofs.TakesLaws.{Measures, ended, number_measured, key_measured, times_measured, pointer_measured, deletion_measured, addition_measured, log_measured}
 use Rattle.snapshot_parse.specs.Parsing.{number_in}
 use Rattle.replay_scan.specs.Scan.{passed_by}
 use Rattle.replay_scan.specs.declared.Passed.{Passed}

@@ -28,7 +28,7 @@ use Rattle.model_replay.specs.Given.{Given, given}
 use Rattle.model_replay.specs.Held.{held_key}
 use Rattle.model_replay.specs.Recording.{edit_tag, size_tag, range_tag, count_tag, new_tag, previous_tag, handed_tag, asks_edit, asks_size, asks_range, asks_count, call_of, range_form, read_count, count_form, read_asked, asked_form}
 use Rattle.model_replay.specs.Takes.{Takes, never, takes, and_then, repeated, counted, tag_takes, key_takes, part_takes, edit_takes, count_takes, asked_takes}
-use Rattle.model_replay.specs.TakesLaws.{Measures, key_measured, edit_measured, range_measured, count_measured}
+use Rattle.model_replay.proofs.TakesLaws.{Measures, key_measured, edit_measured, range_measured, count_measured}
 use Rattle.answers.specs.declared.Outcome.{Outcome}
 use Rattle.answers.specs.declared.Outcome.TheVariants.{Done, Refused}
 use Rattle.keys.specs.declared.Key.{Key}

@@ -9,11 +9,11 @@ use Rattle.lemmas.specs.Lists.{is_empty}
 use Rattle.lemmas.specs.Little.{number}
 use Rattle.model.specs.Snapshot.{Read, onward, ◌>>=◌, give, times, read_number}
 use Rattle.model_replay.specs.Form.{num, got, pair, shaped, many, unread, guarded, only}
-use Rattle.model_replay.specs.FormExactLaws.{times_long, wholly}
+use Rattle.model_replay.proofs.FormExactLaws.{times_long, wholly}
 use Rattle.model_replay.specs.Recording.{Settings, Recording, calls_long, recorded_form, settings_form, recording_form}
-use Rattle.model_replay.specs.RecordingExactLaws.{record_wholly}
+use Rattle.model_replay.proofs.RecordingExactLaws.{record_wholly}
 use Rattle.model_replay.specs.Takes.{Takes, more, on_taken, never, takes, and_then, repeated, counted, part_takes, entry_takes, settings_take}
-use Rattle.model_replay.specs.TakesLaws.{ended, number_measured, number_found, times_measured, entry_measured, settings_measured}
+use Rattle.model_replay.proofs.TakesLaws.{ended, number_measured, number_found, times_measured, entry_measured, settings_measured}
 use Rattle.snapshot_parse.specs.Parsing.{number_in}
 use Rattle.replay_scan.specs.declared.Passed.{Passed}
 use Rattle.replay_scan.specs.Scan.{is_some, is_recording}

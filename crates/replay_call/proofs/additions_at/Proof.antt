@@ -8,7 +8,7 @@ use Rattle.model.specs.Snapshot.{number_long, keys_at}
 use Rattle.model_replay.specs.Held.{held_key}
 use Rattle.model_replay.specs.Recording.{addition_form}
 use Rattle.model_replay.specs.Takes.{key_takes, part_takes}
-use Rattle.model_replay.specs.TakesLaws.{addition_measured}
+use Rattle.model_replay.proofs.TakesLaws.{addition_measured}
 use Rattle.keys.specs.Key.{key_record}
 use Rattle.keys.specs.declared.Key.{Key}
 use Rattle.edit.specs.Edit.{blank_addition}

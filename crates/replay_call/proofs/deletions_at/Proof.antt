@@ -6,7 +6,7 @@ use Rattle.model.specs.File.{max_deletions}
 use Rattle.model.specs.Snapshot.{keys_at}
 use Rattle.model_replay.specs.Recording.{deletion_form}
 use Rattle.model_replay.specs.Takes.{part_takes}
-use Rattle.model_replay.specs.TakesLaws.{deletion_measured}
+use Rattle.model_replay.proofs.TakesLaws.{deletion_measured}
 use Rattle.edit.specs.Edit.{blank_deletion}
 use Rattle.replay_call.specs.Call.{Begins, deletion_record}
 use Rattle.replay_call.specs.ReadLaws.{FilledTo, fill_begins, fill_part, fill_turn, fill_over, part_within, deletion_end, deletion_found}

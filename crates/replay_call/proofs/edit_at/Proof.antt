@@ -6,7 +6,7 @@ use Rattle.model.specs.File.{max_pointers, max_deletions, max_additions}
 use Rattle.model.specs.Snapshot.{number_long, keys_at}
 use Rattle.model_replay.specs.Recording.{pointer_form, deletion_form, addition_form}
 use Rattle.model_replay.specs.Takes.{section_takes}
-use Rattle.model_replay.specs.TakesLaws.{pointer_measured, deletion_measured, addition_measured}
+use Rattle.model_replay.proofs.TakesLaws.{pointer_measured, deletion_measured, addition_measured}
 use Rattle.replay_scan.specs.ScanLaws.{Passes, passes}
 use Rattle.edit.specs.Edit.{blank_pointing, blank_deletion, blank_addition}
 use Rattle.replay_call.specs.Call.{Begins, pointing_record, deletion_record, addition_record, edit_record}

@@ -7,7 +7,7 @@ use Rattle.model.specs.File.{max_pointers}
 use Rattle.model.specs.Snapshot.{number_long}
 use Rattle.model_replay.specs.Recording.{pointer_form}
 use Rattle.model_replay.specs.Takes.{part_takes}
-use Rattle.model_replay.specs.TakesLaws.{pointer_measured}
+use Rattle.model_replay.proofs.TakesLaws.{pointer_measured}
 use Rattle.keys.specs.declared.Key.{Key}
 use Rattle.edit.specs.Edit.{blank_pointing}
 use Rattle.replay_call.specs.Call.{Begins, pointing_record}

@@ -21,9 +21,9 @@ use Rattle.model.proofs.Reading.{decode_sound}
 use Rattle.model.proofs.Demand3.{WordCalls, run_formed}
 use Rattle.model_replay.specs.Form.{num, file_form, pair, shaped, many, only}
 use Rattle.model_replay.specs.Recording.{Asked, asks_edit, asks_size, asks_range, asks_count, Recorded, Recording, call_of, calls_of, pointer_form, deletion_form, addition_form, log_form, edit_form, fits_asked, asked_form, given_form, recorded_form, settings_form, recording_form, recordable, read_recording}
-use Rattle.model_replay.specs.RecordingLaws.{record_says}
+use Rattle.model_replay.proofs.RecordingLaws.{record_says}
 use Rattle.model_replay.specs.Replay.{Mismatch, Outcome, ended, differs, replayed, replayed_from, concluded, replay_of, replay, leaves}
-use Rattle.model_replay.specs.ReplayLaws.{Agree, replayed_ends, DiffersAt, replayed_differs}
+use Rattle.model_replay.proofs.ReplayLaws.{Agree, replayed_ends, DiffersAt, replayed_differs}
 
 -- ---- what can be recorded, part by part
 pub record Recordable (r : Recording) : Type 0 where

@@ -9,7 +9,7 @@ use Rattle.lemmas.specs.Order.{clash}
 use Rattle.model.specs.File.{Profile, State}
 use Rattle.model.specs.History.{after, run}
 use Rattle.model_replay.specs.Given.{Given, given, answers, same_given}
-use Rattle.model_replay.specs.GivenLaws.{given_decides}
+use Rattle.model_replay.proofs.GivenLaws.{given_decides}
 use Rattle.model_replay.specs.Recording.{Asked, Recorded, call_of, calls_of, answers_of}
 use Rattle.model_replay.specs.Replay.{Mismatch, Outcome, ended, differs, replayed, go_on, recorded_day}
 

@@ -19,11 +19,11 @@ use Rattle.model.specs.History.{run}
 use Rattle.model.proofs.Formed.{WF}
 use Rattle.model.proofs.SnapshotLaws.{Fits, encode_length}
 use Rattle.model_replay.specs.Recording.{Recorded, Recording, calls_of, recorded_form, write_recording, recordable, read_recording}
-use Rattle.model_replay.specs.RecordingLaws.{record_back}
+use Rattle.model_replay.proofs.RecordingLaws.{record_back}
 use Rattle.model_replay.specs.Replay.{Outcome, ended, differs, replayed, go_on, replayed_from, concluded, replay_of, replay, first_part, rest_part, on_ended, resumed, replay_all, cuttable}
-use Rattle.model_replay.specs.ReplayLaws.{replayed_cut, Agree, replayed_ends}
-use Rattle.model_replay.specs.ReadBackLaws.{read_back_lem}
-use Rattle.model_replay.specs.ReplayBytesLaws.{Recordable, recordable_says, left_by, Replays, no_snapshot, no_record, one_differs, too_short, none_differs, read_formed, left_formed, read_both, report_end, replay_holds}
+use Rattle.model_replay.proofs.ReplayLaws.{replayed_cut, Agree, replayed_ends}
+use Rattle.model_replay.proofs.ReadBackLaws.{read_back_lem}
+use Rattle.model_replay.proofs.ReplayBytesLaws.{Recordable, recordable_says, left_by, Replays, no_snapshot, no_record, one_differs, too_short, none_differs, read_formed, left_formed, read_both, report_end, replay_holds}
 
 -- ---- cut between calls and resumed
 -- a part of a record

@@ -13,7 +13,7 @@ use Rattle.model.proofs.Reading.{Reads, gives_it}
 use Rattle.model.specs.History.{Call, edits, picks_size, picks_range, counts}
 use Rattle.model_replay.specs.Given.{Why, scored, by_hand, Choice, accepted, handed, picked, Given}
 use Rattle.model_replay.specs.Form.{num, key_form, file_form, got, pair, shaped, many, only, unread, tagged, tag}
-use Rattle.model_replay.specs.FormLaws.{Faithful, num_faithful, key_faithful, file_faithful, reads_got, pair_faithful, shaped_faithful, many_faithful, only_faithful, reads_tagged, parsed_back, parsed_says, written_once}
+use Rattle.model_replay.proofs.FormLaws.{Faithful, num_faithful, key_faithful, file_faithful, reads_got, pair_faithful, shaped_faithful, many_faithful, only_faithful, reads_tagged, parsed_back, parsed_says, written_once}
 use Rattle.model_replay.specs.Recording.{Asked, asks_edit, asks_size, asks_range, asks_count, Recorded, Settings, Recording, call_of, asked_of, pointer_form, deletion_form, addition_form, first_number, log_form, edit_form, range_form, write_count, read_count, fits_count, count_form, write_asked, read_asked, fits_asked, asked_form, write_why, read_why, fits_why, why_form, choice_form, write_given, read_given, fits_given, given_form, recorded_form, settings_form, recording_form, write_recording, recordable, read_recording}
 
 -- ---- every call can be recorded, and stands for itself

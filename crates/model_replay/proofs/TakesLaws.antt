@@ -13,7 +13,7 @@ use Rattle.lemmas.specs.Order.{clash}
 use Rattle.lemmas.specs.Little.{number}
 use Rattle.model.specs.Snapshot.{byte_long, count_long, number_long, keys_at, Read, Reader, onward, ◌>>=◌, give, times, read_bytes, read_number, read_key, read_file}
 use Rattle.model_replay.specs.Form.{Form, num, key_form, file_form, got, pair, shaped, many, unread, guarded, only, tagged}
-use Rattle.model_replay.specs.FormExactLaws.{times_long}
+use Rattle.model_replay.proofs.FormExactLaws.{times_long}
 use Rattle.model_replay.specs.Recording.{setting_count, pointer_form, deletion_form, addition_form, log_form, edit_form, range_form, read_count, count_form, read_asked, asked_form, read_why, why_form, choice_form, read_given, given_form, recorded_form, settings_form}
 use Rattle.model_replay.specs.Takes.{Takes, more, on_taken, never, takes, and_then, repeated, counted, tag_takes, key_takes, part_takes, section_takes, log_takes, edit_takes, count_takes, asked_takes, why_takes, choice_takes, given_takes, entry_takes, settings_take}
 

@@ -15,7 +15,7 @@ use Rattle.model.specs.Counters.{CounterCall, new, reuse, mark, last, manifest, 
 use Rattle.model.specs.Snapshot.{Read, Reader, give}
 use Rattle.model_replay.specs.Given.{Why, scored, by_hand, Choice, accepted, handed, picked, Given}
 use Rattle.model_replay.specs.Form.{num, key_form, file_form, got, pair, shaped, many, unread, only}
-use Rattle.model_replay.specs.FormExactLaws.{Exact, num_exact, key_exact, file_exact, pair_exact, shaped_exact, many_exact, only_exact, tag_says, plain_exact, payload_exact, past_exact, wholly, parsed_wholly}
+use Rattle.model_replay.proofs.FormExactLaws.{Exact, num_exact, key_exact, file_exact, pair_exact, shaped_exact, many_exact, only_exact, tag_says, plain_exact, payload_exact, past_exact, wholly, parsed_wholly}
 use Rattle.model_replay.specs.Recording.{Asked, asks_edit, asks_size, asks_range, asks_count, Recorded, Settings, Recording, pointer_form, deletion_form, addition_form, first_number, log_form, edit_form, range_form, write_count, read_count, fits_count, count_form, write_asked, read_asked, fits_asked, asked_form, write_why, read_why, fits_why, why_form, choice_form, write_given, read_given, fits_given, given_form, recorded_form, settings_form, recording_form, read_recording}
 
 -- ---- the calls

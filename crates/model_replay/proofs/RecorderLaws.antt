@@ -37,8 +37,8 @@ use Rattle.model_replay.specs.Given.{scored, accepted, picked, why_of, choice_of
 use Rattle.model_replay.specs.Form.{Form, num, file_form, pair, shaped, many}
 use Rattle.model_replay.specs.Recording.{Asked, asks_edit, Recorded, call_of, trimmed, pointer_form, deletion_form, addition_form, log_form, edit_form, fits_asked, asked_form, fits_why, why_form, choice_form, fits_given, given_form, recorded_form, recordable}
 use Rattle.model_replay.specs.Replay.{recorded_day}
-use Rattle.model_replay.specs.ReplayBytesLaws.{recordable_says, asked_words}
-use Rattle.model_replay.specs.HeldLaws.{few_says}
+use Rattle.model_replay.proofs.ReplayBytesLaws.{recordable_says, asked_words}
+use Rattle.model_replay.proofs.HeldLaws.{few_says}
 
 -- ---- a refusal's number is one byte
 -- every number of a list of refusals is

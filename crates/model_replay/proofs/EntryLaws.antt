@@ -12,13 +12,13 @@ use Rattle.model.specs.Snapshot.{count_long, number_long, Read, Reader, â—Œ>>=â—
 use Rattle.model.proofs.Reading.{Reads, reads_times}
 use Rattle.model_replay.specs.Given.{Given}
 use Rattle.model_replay.specs.Form.{Form, num, got, pair, shaped, many, only}
-use Rattle.model_replay.specs.FormExactLaws.{bind_says, got_says, Exact}
+use Rattle.model_replay.proofs.FormExactLaws.{bind_says, got_says, Exact}
 use Rattle.model_replay.specs.Recording.{calls_long, setting_count, Asked, Recorded, Recording, asked_form, given_form, recorded_form, settings_form, recording_form, write_recording, recordable}
-use Rattle.model_replay.specs.RecordingExactLaws.{asked_exact, given_exact}
-use Rattle.model_replay.specs.RecordingLaws.{recorded_faithful}
-use Rattle.model_replay.specs.ReplayBytesLaws.{recordable_says}
+use Rattle.model_replay.proofs.RecordingExactLaws.{asked_exact, given_exact}
+use Rattle.model_replay.proofs.RecordingLaws.{recorded_faithful}
+use Rattle.model_replay.proofs.ReplayBytesLaws.{recordable_says}
 use Rattle.model_replay.specs.Takes.{Takes, asked_takes, given_takes}
-use Rattle.model_replay.specs.TakesLaws.{Measures, asked_measured, given_measured}
+use Rattle.model_replay.proofs.TakesLaws.{Measures, asked_measured, given_measured}
 
 -- ---- one part
 -- bytes begin with a value: it takes so many of them, fits, and writes those very ones

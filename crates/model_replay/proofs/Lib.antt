@@ -1,0 +1,13 @@
+pub mod EntryLaws
+pub mod FormExactLaws
+pub mod FormLaws
+pub mod GivenLaws
+pub mod HeldLaws
+pub mod ReadBackLaws
+pub mod RecorderLaws
+pub mod RecordingExactLaws
+pub mod RecordingLaws
+pub mod ReplayBytesLaws
+pub mod ReplayLaws
+pub mod ResumeLaws
+pub mod TakesLaws
