@@ -19,7 +19,7 @@ use Rattle.lemmas.specs.Order.{clash}
 use Rattle.lemmas.specs.Lists.{all, find, sum, up_from}
 use Rattle.lemmas.specs.ListLaws.{all_in, join_in, join_length, up_from_in, find_up_from}
 use Rattle.model.specs.File.{Profile, File, State, level, total, max_size, level_count}
-use Rattle.model.specs.Score.{Score, lower, byte_limit, score, scored, has_greatest, level_to_compact, reported}
+use Rattle.model.specs.Score.{Score, lower, byte_limit, score, scored, has_greatest, level_to_compact, reported, best_from, Lossless}
 use Rattle.model.proofs.Formed.{WF, good_file_says}
 
 -- ---- fractions with a denominator above 0
@@ -70,11 +70,6 @@ unfolding byte_limit up_from
 limits_are = refl
 
 -- ---- the lowest of the levels with the greatest score, in one pass
--- the best level so far against the n levels from l on
-unfoldable pub best_from : (ℕ → Score) → ℕ → ℕ → ℕ → ℕ
-best_from sc best l zero = best
-best_from sc best l (suc n) = best_from sc (cond (lower (sc best) (sc l)) l best) (suc l) n
-
 -- the lowest of the first n levels with the greatest score
 pub record LowestGreatest (sc : ℕ → Score) (n best : ℕ) : Type 0 where
   pub among : best < n
@@ -190,11 +185,6 @@ limit_small (suc (suc zero)) h = omega arith
 limit_small (suc (suc (suc zero))) h = omega arith
 limit_small (suc (suc (suc (suc zero)))) h = omega arith
 limit_small (suc (suc (suc (suc (suc l))))) h = absurd (omega arith)
-
--- both numbers are below 2^53, so each is converted without loss
-pub record Lossless (c : Score) : Type 0 where
-  pub part : c.part < 2 ^ 53
-  pub whole : c.whole < 2 ^ 53
 
 -- this holds for every level that has a score
 pub lossless : (p : Profile) (s : State) → p.levels ≤ level_count → p.room < 2 ^ 13 → WF p s → (l : ℕ) → suc l < p.levels → Lossless (score s l)

@@ -1,5 +1,5 @@
 -- When to compact: scores as exact fractions, the level to compact, and the score that is reported. Assumes nothing.
-use Rattle.std.specs.Prelude.{ℕ, zero, suc, ◌*◌, ◌-◌, ◌^◌, Bool, not, List, ltb, leb, length, pos, Float}
+use Rattle.std.specs.Prelude.{ℕ, zero, suc, ◌*◌, ◌-◌, ◌^◌, ◌<◌, Bool, not, cond, List, ltb, leb, length, pos, Float}
 use Rattle.std.proofs.Math.Option.{get_or}
 use Rattle.std.specs.Float.{binary64}
 use Rattle.std.specs.Float.Ieee.{of_int, div}
@@ -43,3 +43,14 @@ due c = leb c.whole c.part
 -- the score as one f64 division of the two numbers, each converted
 unfoldable pub reported : Score → Float
 reported c = div binary64 (of_int binary64 (pos c.part)) (of_int binary64 (pos c.whole))
+
+-- ---- the lowest of the levels with the greatest score, in one pass
+-- the best level so far against the n levels from l on
+unfoldable pub best_from : (ℕ → Score) → ℕ → ℕ → ℕ → ℕ
+best_from sc best l zero = best
+best_from sc best l (suc n) = best_from sc (cond (lower (sc best) (sc l)) l best) (suc l) n
+
+-- both numbers are below 2^53, so each is converted without loss
+pub record Lossless (c : Score) : Type 0 where
+  pub part : c.part < 2 ^ 53
+  pub whole : c.whole < 2 ^ 53

@@ -4,7 +4,7 @@ use Rattle.std.specs.Float.{fin}
 use Rattle.model.specs.Answer.{Answer, gives, refused}
 use Rattle.model.specs.File.{State, full, max_files, max_size, max_bytes}
 use Rattle.model.specs.Score.{Score, byte_limit, score, level_to_compact, due, reported}
-use Rattle.model.proofs.ScoreLaws.{best_from}
+use Rattle.model.specs.Score.{best_from}
 use Rattle.model.specs.Calls as calls
 use Rattle.answers.specs.Outcome.{outcome_of}
 use Rattle.pick_score.specs.declared.Scored.{Scored}

@@ -15,8 +15,8 @@ use Rattle.lemmas.specs.ListLaws.{join_in, join_length}
 use Rattle.model.specs.Answer.{refused, first_of, ◌⇒◌}
 use Rattle.model.specs.File.{State, full, level, total, max_size, well_formed, last_level, level_count, max_files, max_bytes}
 use Rattle.model.proofs.Formed.{WF, good_file_says, formed_says}
-use Rattle.model.specs.Score.{Score, lower, byte_limit, score, level_to_compact, reported}
-use Rattle.model.proofs.ScoreLaws.{best_from, best_level, level_is, total_most, Lossless}
+use Rattle.model.specs.Score.{Score, lower, byte_limit, score, level_to_compact, reported, best_from, Lossless}
+use Rattle.model.proofs.ScoreLaws.{best_level, level_is, total_most}
 use Rattle.model.specs.Calls as calls
 use Rattle.records.specs.Record.{limit_of}
 use Rattle.store.specs.Store.{state_of, well_store, look_of, on_store}

@@ -3,7 +3,7 @@
 
 ghost use Rattle.std.specs.Prelude.{◌≡◌, ◌<◌};
 ghost use Rattle.model.specs.File.{full, last_level};
-ghost use Rattle.model.proofs.ScoreLaws.{best_from, Lossless};
+ghost use Rattle.model.specs.Score.{best_from, Lossless};
 ghost use Rattle.model.specs.Calls as calls;
 ghost use Rattle.store.specs.Store.{on_store};
 ghost use Rattle.pick_score.specs.Scores.{whole_of, score_at, scores_by, scored_as, scored_by, amounts_by, unscored, work_of, Amounts};

@@ -6,8 +6,8 @@ use Rattle.std.specs.Float.{Format, binary64, inf}
 use Rattle.std.specs.Float.Ieee.{prec, emax, low, size, nearest, odd, units, round, is_nan}
 use Rattle.model.specs.File.{State, full, well_formed}
 use Rattle.model.proofs.Formed.{formed_says}
-use Rattle.model.specs.Score.{Score, score, level_to_compact, reported}
-use Rattle.model.proofs.ScoreLaws.{Proper, score_proper, Lossless, lossless, level_is, reported_once}
+use Rattle.model.specs.Score.{Score, score, level_to_compact, reported, Lossless}
+use Rattle.model.proofs.ScoreLaws.{Proper, score_proper, lossless, level_is, reported_once}
 
 -- ---- rounding
 -- a value written with an odd significand is a number

@@ -6,7 +6,7 @@ use native.Mathlib.Omega.{arith}
 use borrow.Author.Tests.{lt-ltb, le-ltb}
 use lib.ListN.{get_or}
 use Rattle.model.specs.File.{last_level}
-use Rattle.model.proofs.ScoreLaws.{best_from}
+use Rattle.model.specs.Score.{best_from}
 use Rattle.pick_score.specs.Scores.{scores_by, times}
 use Rattle.pick_score.specs.ScoresLaws.{compares, top_fits, best_here, best_kept, best_ended}
 use Rattle.pick_score.proofs.best_level.Statement.{statement}
