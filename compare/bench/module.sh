@@ -6,6 +6,7 @@ set -e
 root=$(cd "$(dirname "$0")/../.." && pwd -P)
 home=${RATTLE_HOME:-$(cd "$(dirname "$(readlink -f "$(command -v rt)")")/.." && pwd -P)}
 own=$home/on/$(uname -m)
+[ -x "$own/bin/rattle-cases" ] || { echo "compare/bench/module.sh: this kit has no rattle-cases: the module that its compiler hands to clang is not to be had (native.sh and stack.sh need it)" >&2; exit 2; }
 room=$(mktemp -d)
 trap 'rm -rf "$room"' EXIT
 mkdir -p "$room/tools/bin"

@@ -2,7 +2,7 @@
 // diff (each file differs), same (none does), pick, manual, overlap, lookup, base, cut; search, bases, advance do as lookup, base and cut with what was tested once.
 #![tactic(auto)]
 
-ghost use Rattle.std.specs.Prelude.{◌≡◌, true, ◌<◌, ◌≤◌};
+ghost use Rattle.std.specs.Prelude.{◌≡◌, true, ◌<◌, ◌≤◌, length};
 ghost use Rattle.level_list.specs.List.{well_list};
 ghost use Rattle.pick_answer.specs.Picked.{well_picked};
 ghost use Rattle.store.specs.Store.{well_store};
@@ -54,13 +54,21 @@ fn number(s: &[u8]) -> u64 {
     x
 }
 
+// Lays a word of the command line in lent bytes, and returns its length: none if it is missing or longer.
+fn lay_arg<R: Env>(rt: &R, i: usize, room: &mut [u8]) -> usize
+    ensures { result ≤ length room.new }
+{
+    match rt.arg(i, room) {
+        Ok(n) => n,
+        Err(_) => 0,
+    }
+}
+
 // The number that a word of the command line is.
 fn arg_number<R: Env>(rt: &R, i: usize) -> u64 {
     let mut b = io::buffer();
-    match rt.arg(i, &mut b) {
-        Ok(n) => number(&b[..n]),
-        Err(_) => number(&b[..0]),
-    }
+    let n = lay_arg(rt, i, &mut b);
+    number(&b[..n])
 }
 
 // The digit of a number at a place of ten.
@@ -664,10 +672,7 @@ fn run(word: &[u8], n: usize, files: u64, repeats: u64) -> u64 {
 // OPERATION FILES REPEATS.
 fn main(rt: HostRuntime) {
     let mut word = io::buffer();
-    let n = match rt.arg(1, &mut word) {
-        Ok(got) => got,
-        Err(_) => 0,
-    };
+    let n = lay_arg(&rt, 1, &mut word);
     let files = arg_number(&rt, 2);
     let repeats = arg_number(&rt, 3);
     io::print_decimal(1, run(&word, n, files, repeats));

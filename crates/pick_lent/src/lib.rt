@@ -50,7 +50,7 @@ fn follow(s: &mut Store, plan: PickPlan) -> Taken
     requires { Ready s.old plan.asked plan.search × (plan.asked.level < last_level) }
     ensures { Leaves s.old (picks_from s.old plan.cause plan.asked plan.search) result s.new }
 {
-    pick_plan::shaped(&*s);
+    store::shaped(&*s);
     // First inputs, second inputs, growth, grandparents. Input lists are completed where files share an edge key.
     let c = pick_search::choose(&*s, plan.asked, plan.search);
     // 10 where nothing qualifies.

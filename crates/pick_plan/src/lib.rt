@@ -268,18 +268,11 @@ fn size_asked(s: &Store, bytes: [u64; Level::COUNT], maximum: u64) -> PickPlan
     size_planned(scored, started, maximum)
 }
 
-// A lent store has its shape, which its type says and the read tells. Internal.
-pub fn shaped(s: &Store)
-    ensures { StoreShape s.now }
-{
-    let _set = s.pointers[0].set;
-}
-
 // The plan of a size pick on a lent store. Internal.
 pub fn size_plan(s: &Store, maximum: u64) -> PickPlan
     ensures { Plans s.now (on_store s.now (λ t. model.size_pick full t maximum)) result }
 {
-    shaped(s);
+    store::shaped(s);
     let seen = store::look(*s);
     if seen.well {
         return size_asked(s, seen.bytes, maximum);

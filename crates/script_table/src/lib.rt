@@ -194,8 +194,8 @@ fn may_end(table: &[u8], k: usize) -> bool {
 
 // ---- kinds of words
 
-// Whether a word is hex digits, or `-` for no bytes. Internal.
-pub fn is_bytes(line: &[u8], from: usize, to: usize) -> bool
+// Whether a word is hex digits, or `-` for no bytes.
+fn is_bytes(line: &[u8], from: usize, to: usize) -> bool
     ensures { result ≡ bytes_word (word_of line.now from to) }
 {
     if script_words::is_word(line, from, to, b"-") {

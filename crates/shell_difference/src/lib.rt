@@ -8,7 +8,7 @@ ghost use Rattle.std.specs.Prelude.{◌≤◌, length};
 use difference::List;
 use script_parts::Run;
 use script_table::Fault;
-pub use slots::{Kept, is_empty, lay_word, nothing};
+pub use slots::{Kept, nothing};
 use snapshot_parts::Snapshot;
 use snapshot_write::Written;
 use store::Store;

@@ -89,8 +89,8 @@ fn letter_of(line: &[u8], w: Run) -> u8 {
     0
 }
 
-// Whether a word names a letter under which nothing is kept. Internal.
-pub fn is_empty(kept: &[u8], line: &[u8], w: Run) -> bool {
+// Whether a word names a letter under which nothing is kept.
+pub(crate) fn is_empty(kept: &[u8], line: &[u8], w: Run) -> bool {
     let letter = letter_of(line, w);
     if letter == 0 {
         return false;
@@ -99,8 +99,8 @@ pub fn is_empty(kept: &[u8], line: &[u8], w: Run) -> bool {
     r.to <= r.from
 }
 
-// Writes the bytes that a word stands for to lent bytes, as far as there is room: what is kept, or those of hex digits. Returns how many. Internal.
-pub fn lay_word(kept: &[u8], line: &[u8], w: Run, room: &mut [u8]) -> usize
+// Writes the bytes that a word stands for to lent bytes, as far as there is room: what is kept, or those of hex digits. Returns how many.
+pub(crate) fn lay_word(kept: &[u8], line: &[u8], w: Run, room: &mut [u8]) -> usize
     ensures { result ≤ length room.new }
 {
     let letter = letter_of(line, w);

@@ -28,6 +28,12 @@ struct Got {
     count: usize,
 }
 
+// What is read of a file that cannot be opened.
+const UNREAD: Got = Got {
+    fine: false,
+    count: 0,
+};
+
 // Room for a file's bytes.
 #[derive(Clone, Copy)]
 struct Room {}
@@ -52,8 +58,8 @@ fn file_room() -> [u8; Room::FILE] {
 
 // ---- answers
 
-// `bad`, a text, the name of a file, and a text. Internal.
-pub fn put_bad(out: &mut [u8], before: &[u8], name: &[u8], after: &[u8]) -> usize {
+// `bad`, a text, the name of a file, and a text.
+fn put_bad(out: &mut [u8], before: &[u8], name: &[u8], after: &[u8]) -> usize {
     let start = script_lines::put(out, 0, b"bad ");
     let at = script_lines::put(out, start, before);
     let to = script_lines::put(out, at, name);
@@ -214,15 +220,9 @@ fn read_file<R: Files>(rt: &R, name: &[u8], room: &mut [u8]) -> Got
     match str::from_utf8(name) {
         Ok(text) => match File::open(rt, text) {
             Ok(file) => read_open(file, room),
-            Err(_) => Got {
-                fine: false,
-                count: 0,
-            },
+            Err(_) => UNREAD,
         },
-        Err(_) => Got {
-            fine: false,
-            count: 0,
-        },
+        Err(_) => UNREAD,
     }
 }
 
@@ -257,8 +257,8 @@ fn stay(out: &mut [u8], s: Store, name: &[u8], long: bool) -> Opened
 
 // ---- the commands
 
-// The name in a line: the word after the command's. No bytes if there is none. Internal.
-pub fn name_of(line: &[u8]) -> &[u8] {
+// The name in a line: the word after the command's. No bytes if there is none.
+fn name_of(line: &[u8]) -> &[u8] {
     let w = script_parts::run_of(line, script_parts::words_of(line), 1);
     let from = w.from;
     let to = w.to;

@@ -7,7 +7,7 @@ ghost use Rattle.model.specs.File.{full, fresh, good_counters, max_files};
 ghost use Rattle.counters.specs.Counters.{counters_of};
 ghost use Rattle.levels.specs.Levels.{tells_well};
 ghost use Rattle.records.specs.Record.{past};
-ghost use Rattle.store.specs.Store.{store_of, well_pointer, well_store, look_of, numbered_of, refused_by};
+ghost use Rattle.store.specs.Store.{store_of, well_pointer, well_store, look_of, numbered_of, refused_by, StoreShape};
 
 use answers::Outcome;
 use counters::Counters;
@@ -174,6 +174,13 @@ pub fn file_at(s: &Store, i: usize) -> FileRecord
     ensures { result ≡ get_or s.now.files i past }
 {
     s.files[i]
+}
+
+// Tells the shape of a lent store: of a struct behind a reference the prover knows nothing before an element of one of its arrays is read. Internal.
+pub fn shaped(s: &Store)
+    ensures { StoreShape s.now }
+{
+    let _set = s.pointers[0].set;
 }
 
 // The store unchanged, with the number of the refusal. Internal.
