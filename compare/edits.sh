@@ -21,8 +21,7 @@ for name in "$@"; do
 done
 room=$(mktemp -d)
 trap 'rm -rf "$room"' EXIT
-cp -R "$root/crates" "$root/crates.txt" "$room/"
-[ ! -d "$root/target" ] || cp -R "$root/target" "$room/target"
+(cd "$root" && tar -cf - --exclude=out crates crates.txt) | (cd "$room" && tar -xf -)
 for c in "$room"/crates/*; do
     name=$(basename "$c")
     [ -n "$all" ] || rm -rf "$c/must-fail"
