@@ -1,12 +1,35 @@
--- Laws of the outcome of a list of tests. Assumes nothing.
-use Rattle.std.specs.Prelude.{ℕ, ◌≡◌, refl, Bool, true, false, cond, List, [], ◌∷◌, ◌++◌}
+-- Laws of refusals and their numbers, and of the outcome of a list of tests. Assumes nothing.
+use Rattle.std.specs.Prelude.{ℕ, ◌≡◌, refl, Bool, true, false, cond, List, [], ◌∷◌, ◌++◌, Result, Ok, Err}
 use Rattle.std.proofs.Common.{sym, ◌∙◌}
 use Rattle.std.proofs.Math.Path.{ap}
 use Rattle.lemmas.specs.Order.{clash}
 use Rattle.model.specs.Answer.{Answer, gives, refused, Refusal, first_of, ◌⇒◌}
 use Rattle.model.specs.AnswerLaws.{NoneApplies, first_of_gives}
-use Rattle.answers.specs.Outcome.{outcome_of, passed}
-use Rattle.answers.specs.declared.Outcome.TheVariants.{Done, Refused}
+use Rattle.answers.specs.Outcome.{number_of, refusal_of, outcome_of, passed}
+use Rattle.answers.specs.declared.Refusal as code
+use Rattle.answers.specs.declared.Refusal.TheVariants.{Level, Key, Entries, Ends, Size, Twice, Collision, Room, Counter, Nothing, LastLevel, Backwards, Output, Form, Record}
+
+-- the refusal with the number of a refusal is that refusal
+pub refusal_of_number : (r : code.Refusal) → refusal_of (number_of r) ≡ r
+refusal_of_number Level = refl
+refusal_of_number Key = refl
+refusal_of_number Entries = refl
+refusal_of_number Ends = refl
+refusal_of_number Size = refl
+refusal_of_number Twice = refl
+refusal_of_number Collision = refl
+refusal_of_number Room = refl
+refusal_of_number Counter = refl
+refusal_of_number Nothing = refl
+refusal_of_number LastLevel = refl
+refusal_of_number Backwards = refl
+refusal_of_number Output = refl
+refusal_of_number Form = refl
+refusal_of_number Record = refl
+
+-- two refusals have two numbers
+pub one_number : (r q : code.Refusal) → number_of r ≡ number_of q → r ≡ q
+one_number r q e = sym (refusal_of_number r) ∙ ap refusal_of e ∙ refusal_of_number q
 
 -- the outcome does not depend on the result behind the tests
 outcome_same : {A B : Type 0} (rs : List Refusal) (a : A) (b : B) → outcome_of (first_of rs a) ≡ outcome_of (first_of rs b)
@@ -24,14 +47,14 @@ unfolding passed
 passed_is rs a = outcome_same rs rs a
 
 -- no test: done
-pub passed_nil : passed [] ≡ Done
+pub passed_nil : passed [] ≡ Ok tt
 unfolding passed first_of outcome_of
 passed_nil = refl
 
 -- by the first test
 module _ (r : Refusal) (rs : List Refusal) where
   -- it applies: refused with its number
-  first_here : r.applies ≡ true → passed (r ∷ rs) ≡ Refused r.code
+  first_here : r.applies ≡ true → passed (r ∷ rs) ≡ Err (refusal_of r.code)
   unfolding passed first_of outcome_of
   first_here e = rw e
 
@@ -44,7 +67,7 @@ module _ (r : Refusal) (rs : List Refusal) where
 -- the same, with the test and its number written out
 module _ (b : Bool) (n : ℕ) (rs : List Refusal) where
   -- it applies: refused with its number
-  pub passed_here : b ≡ true → passed ((b ⇒ n) ∷ rs) ≡ Refused n
+  pub passed_here : b ≡ true → passed ((b ⇒ n) ∷ rs) ≡ Err (refusal_of n)
   unfolding ◌⇒◌
   passed_here e = first_here (b ⇒ n) rs e
 
@@ -56,25 +79,25 @@ module _ (b : Bool) (n : ℕ) (rs : List Refusal) where
 -- two lists of tests joined
 module _ (ys : List Refusal) where
   -- the first list refuses
-  pub passed_refused : (xs : List Refusal) (n : ℕ) → passed xs ≡ Refused n → passed (xs ++ ys) ≡ Refused n
-  passed_refused [] n e = let z : true ≡ false = cc passed_nil in clash refl z
-  passed_refused (x ∷ xs) n e = go (passed_refused xs n) x.applies refl
+  pub passed_refused : (xs : List Refusal) (r : code.Refusal) → passed xs ≡ Err r → passed (xs ++ ys) ≡ Err r
+  passed_refused [] r e = let z : true ≡ false = cc passed_nil in clash refl z
+  passed_refused (x ∷ xs) r e = go (passed_refused xs r) x.applies refl
     where
-      go : (passed xs ≡ Refused n → passed (xs ++ ys) ≡ Refused n) → (t : Bool) → x.applies ≡ t → passed (x ∷ (xs ++ ys)) ≡ Refused n
+      go : (passed xs ≡ Err r → passed (xs ++ ys) ≡ Err r) → (t : Bool) → x.applies ≡ t → passed (x ∷ (xs ++ ys)) ≡ Err r
       go ih true f = first_here x (xs ++ ys) f ∙ sym (first_here x xs f) ∙ e
       go ih false f = first_later x (xs ++ ys) f ∙ ih (sym (first_later x xs f) ∙ e)
 
   -- the first list does not: the second decides
-  pub passed_done : (xs : List Refusal) → passed xs ≡ Done → passed (xs ++ ys) ≡ passed ys
+  pub passed_done : (xs : List Refusal) → passed xs ≡ Ok tt → passed (xs ++ ys) ≡ passed ys
   passed_done [] e = refl
   passed_done (x ∷ xs) e = go (passed_done xs) x.applies refl
     where
-      go : (passed xs ≡ Done → passed (xs ++ ys) ≡ passed ys) → (t : Bool) → x.applies ≡ t → passed (x ∷ (xs ++ ys)) ≡ passed ys
+      go : (passed xs ≡ Ok tt → passed (xs ++ ys) ≡ passed ys) → (t : Bool) → x.applies ≡ t → passed (x ∷ (xs ++ ys)) ≡ passed ys
       go ih true f = let z : true ≡ false = cc (first_here x xs f) in clash refl z
       go ih false f = first_later x (xs ++ ys) f ∙ ih (sym (first_later x xs f) ∙ e)
 
 -- done: no test applies
-pub passed_none : (rs : List Refusal) → passed rs ≡ Done → NoneApplies rs
+pub passed_none : (rs : List Refusal) → passed rs ≡ Ok tt → NoneApplies rs
 unfolding passed outcome_of
 passed_none rs e = go (first_of rs rs) refl
   where

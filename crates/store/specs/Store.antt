@@ -1,12 +1,13 @@
 -- The state that a store stands for, and the store that holds a state. Assumes nothing.
-use Rattle.std.specs.Prelude.{ℕ, ◌≡◌, Bool, true, false, ◌&&◌, ◌||◌, cond, List, [], map, eqb, length}
+use Rattle.std.specs.Prelude.{ℕ, ◌≡◌, Bool, true, false, ◌&&◌, ◌||◌, cond, List, [], map, eqb, length, Result}
 use Rattle.std.proofs.Math.Option.{Option, none, some}
 use Rattle.lemmas.specs.Lists.{all}
 use Rattle.lemmas.specs.Each.{Each}
 use Rattle.model.specs.Answer.{Answer, gives, refused}
 use Rattle.model.specs.File as model
 use Rattle.model.specs.File.{State, full, well_formed, max_files, level_count, key_room}
-use Rattle.answers.specs.Outcome.{outcome_of}
+use Rattle.answers.specs.Outcome.{result_of}
+use Rattle.answers.specs.declared.Refusal.{Refusal}
 use Rattle.keys.specs.Key.{key_of, key_record, sound_key}
 use Rattle.records.specs.Record.{AllShaped}
 use Rattle.counters.specs.Counters.{counters_of, counters_record}
@@ -15,7 +16,6 @@ use Rattle.store.specs.declared.Pointer.{Pointer}
 use Rattle.store.specs.declared.Store.{Store}
 use Rattle.store.specs.declared.Looked.{Looked}
 use Rattle.store.specs.declared.Numbered.{Numbered}
-use Rattle.store.specs.declared.Stored.{Stored}
 
 -- the pointer that a record stands for
 unfoldable pub pointer_of : Pointer → Option (List ℕ)
@@ -72,13 +72,9 @@ unfoldable pub leaves : Store → Answer State → Store
 leaves s (gives t) = store_of t
 leaves s (refused n) = s
 
--- the answer of a call that returns a store
-unfoldable pub stored : Store → Answer State → Stored
-stored s a = record { outcome = outcome_of a; store = leaves s a }
-
--- the store unchanged, with the number of the refusal
-unfoldable pub refused_by : Store → ℕ → Stored
-refused_by s n = stored s (refused n)
+-- the result of a call that returns a store: the store of the new state, or the refusal
+unfoldable pub stored : Answer State → Result Store Refusal
+stored a = result_of store_of a
 
 -- the pointer's key has its room
 abbrev pub PointerShaped : Pointer → Type 0

@@ -7,9 +7,8 @@ ghost use Rattle.model.specs.File.{full, fresh, good_counters, max_files};
 ghost use Rattle.counters.specs.Counters.{counters_of};
 ghost use Rattle.levels.specs.Levels.{tells_well};
 ghost use Rattle.records.specs.Record.{past};
-ghost use Rattle.store.specs.Store.{store_of, well_pointer, well_store, look_of, numbered_of, refused_by, StoreShape};
+ghost use Rattle.store.specs.Store.{store_of, well_pointer, well_store, look_of, numbered_of, StoreShape};
 
-use answers::Outcome;
 use counters::Counters;
 use keys::{FileNumber, Key, SequenceNumber};
 use levels::Surveyed;
@@ -52,13 +51,6 @@ pub struct Numbered {
     pub total: usize,
     // Whether the store is well-formed.
     pub well: bool,
-}
-
-// The answer of a call that changes a store. After a refusal the store is the one given. The store is the first field, so that it is copied as one piece.
-#[derive(Clone, Copy)]
-pub struct Stored {
-    pub store: Store,
-    pub outcome: Outcome,
 }
 
 // A store with no files or pointers, next file number 2, other counters 0.
@@ -181,15 +173,4 @@ pub fn shaped(s: &Store)
     ensures { StoreShape s.now }
 {
     let _set = s.pointers[0].set;
-}
-
-// The store unchanged, with the number of the refusal. Internal.
-pub fn refuse(s: Store, n: u8) -> Stored
-    ensures { result ≡ refused_by s n }
-{
-    let outcome = Outcome::Refused(n);
-    Stored {
-        outcome: outcome,
-        store: s,
-    }
 }

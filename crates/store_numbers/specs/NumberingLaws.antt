@@ -1,6 +1,6 @@
 -- Laws of the counter calls: the store that each leaves, and its refusals. Assumes nothing.
 use Prim.Native.Nat.{ℕ, suc, ◌+◌, ◌≤◌, ◌<◌}
-use Rattle.std.specs.Prelude.{◌≡◌, refl, Bool, true, false, cond, ltb}
+use Rattle.std.specs.Prelude.{◌≡◌, refl, Bool, true, false, cond, ltb, Ok, Err}
 use Rattle.std.proofs.Common.{sym, ◌∙◌, add-one, eq-eqb, ne_eqb, le-leb}
 use Rattle.std.proofs.Math.Path.{ap}
 use native.Mathlib.Omega.{arith}
@@ -11,14 +11,14 @@ use Rattle.model.specs.File.{State, full, well_formed, max_counter, set_counters
 use Rattle.model.specs.Counters.{CounterCall, new, reuse, mark, counted, counter_beyond, counter}
 use Rattle.model.specs.Calls as calls
 use Rattle.model.specs.CounterLaws.{new_is}
-use Rattle.answers.specs.declared.Outcome.TheVariants.{Done}
-use Rattle.answers.specs.Outcome.{outcome_of}
+use Rattle.answers.specs.declared.Refusal.TheVariants.{Counter, Form}
+use Rattle.answers.specs.Outcome.{result_of}
 use Rattle.counters.specs.Counters.{counters_of, counters_record}
 use Rattle.counters.specs.declared.Counters.{Counters}
 use Rattle.store.specs.declared.Store.{Store}
-use Rattle.store.specs.Store.{state_of, store_of, sound_store, well_store, on_store, leaves, stored, refused_by, StoreShape}
+use Rattle.store.specs.Store.{state_of, store_of, sound_store, well_store, on_store, stored, StoreShape}
 use Rattle.store.specs.StoreLaws.{canonical, well_says, on_store_well, on_store_ill}
-use Rattle.store_numbers.specs.Numbering.{counting, setting, handed}
+use Rattle.store_numbers.specs.Numbering.{counting, setting, handed, handed_record}
 
 -- ---- a store with other counters
 
@@ -52,33 +52,33 @@ module _ (t : State) (d : CounterCall) where
 -- on a store
 module _ (s : Store) (d : CounterCall) where
   -- not well-formed: 14
-  pub count_ill : well_store s ≡ false → refused_by s 14 ≡ stored s (on_store s (λ t. counter full t d))
-  unfolding refused_by
-  count_ill h = ap (stored s) (sym (on_store_ill s (λ t. counter full t d) (counter_ill (state_of s) d) h))
+  pub count_ill : well_store s ≡ false → Err Form ≡ stored (on_store s (λ t. counter full t d))
+  unfolding stored result_of
+  count_ill h = ap stored (sym (on_store_ill s (λ t. counter full t d) (counter_ill (state_of s) d) h))
 
   -- beyond a counter's bound: 9
-  pub count_beyond : well_store s ≡ true → counter_beyond d (counters_of s.counters) ≡ true → refused_by s 9 ≡ stored s (on_store s (λ t. counter full t d))
-  unfolding refused_by state_of
-  count_beyond h b = ap (stored s) (sym (on_store_well s (λ t. counter full t d) h ∙ counter_beyond_lem (state_of s) d ((well_says s).0 h).formed b))
+  pub count_beyond : well_store s ≡ true → counter_beyond d (counters_of s.counters) ≡ true → Err Counter ≡ stored (on_store s (λ t. counter full t d))
+  unfolding stored result_of state_of
+  count_beyond h b = ap stored (sym (on_store_well s (λ t. counter full t d) h ∙ counter_beyond_lem (state_of s) d ((well_says s).0 h).formed b))
 
   -- else the same store with the counters set
   pub count_done : StoreShape s → (c : Counters) → well_store s ≡ true → counter_beyond d (counters_of s.counters) ≡ false → counters_of c ≡ counted d (counters_of s.counters)
-      → counting s c ≡ stored s (on_store s (λ t. counter full t d))
-  unfolding counting stored leaves outcome_of state_of
+      → Ok (counting s c) ≡ stored (on_store s (λ t. counter full t d))
+  unfolding stored result_of state_of
   count_done q c h b e =
       let w = (well_says s).0 h in
       let a = on_store_well s (λ t. counter full t d) h ∙ counter_gives (state_of s) d w.formed b in
       let kept = other_counters s q w.sound c ∙ ap (λ (x : model.Counters). store_of (set_counters (state_of s) x)) e in
-      (λ i. record { outcome = outcome_of {A = State} (gives (state_of s)); store = kept i }) ∙ ap (stored s) (sym a)
+      ap Ok kept ∙ ap stored (sym a)
 
 -- a setter's answer is that of its counter call
 pub setting_is : (s : Store) (d : CounterCall) (n : ℕ) (c : Counters) → StoreShape s → counter_beyond d (counters_of s.counters) ≡ ltb max_counter n
-    → counters_of c ≡ counted d (counters_of s.counters) → setting s n c ≡ stored s (on_store s (λ t. counter full t d))
+    → counters_of c ≡ counted d (counters_of s.counters) → setting s n c ≡ stored (on_store s (λ t. counter full t d))
 unfolding setting
 setting_is s d n c q b e = go (well_store s) refl (ltb max_counter n) b
   where
     go : (w : Bool) → well_store s ≡ w → (t : Bool) → counter_beyond d (counters_of s.counters) ≡ t
-        → cond w (cond t (refused_by s 9) (counting s c)) (refused_by s 14) ≡ stored s (on_store s (λ t. counter full t d))
+        → cond w (cond t (Err Counter) (Ok (counting s c))) (Err Form) ≡ stored (on_store s (λ t. counter full t d))
     go false h t b = count_ill s d h
     go true h true b = count_beyond s d h b
     go true h false b = count_done s d q c h b e
@@ -95,24 +95,24 @@ module _ (s : Store) where
   new_on h = on_store_well s (calls.new_number full) h ∙ new_is full (state_of s)
 
   -- not well-formed: 14
-  pub new_ill : well_store s ≡ false → handed s (refused 14) ≡ handed s (on_store s (calls.new_number full))
-  unfolding on_answer state_of counters_of
-  new_ill h = ap (handed s) (sym (on_store_ill s (calls.new_number full) (λ e. new_is full (state_of s) ∙ ap (on_answer with_next) (counter_ill (state_of s) new e)) h))
+  pub new_ill : well_store s ≡ false → Err Form ≡ handed (on_store s (calls.new_number full))
+  unfolding handed result_of on_answer state_of counters_of
+  new_ill h = ap handed (sym (on_store_ill s (calls.new_number full) (λ e. new_is full (state_of s) ∙ ap (on_answer with_next) (counter_ill (state_of s) new e)) h))
 
   -- beyond the counter's bound: 9
-  pub new_beyond : well_store s ≡ true → counter_beyond new (counters_of s.counters) ≡ true → handed s (refused 9) ≡ handed s (on_store s (calls.new_number full))
-  unfolding on_answer state_of
-  new_beyond h b = ap (handed s) (sym (new_on h ∙ ap (on_answer with_next) (counter_beyond_lem (state_of s) new ((well_says s).0 h).formed b)))
+  pub new_beyond : well_store s ≡ true → counter_beyond new (counters_of s.counters) ≡ true → Err Counter ≡ handed (on_store s (calls.new_number full))
+  unfolding handed result_of on_answer state_of
+  new_beyond h b = ap handed (sym (new_on h ∙ ap (on_answer with_next) (counter_beyond_lem (state_of s) new ((well_says s).0 h).formed b)))
 
   -- else the number handed out and the store with next one greater
   pub new_done : StoreShape s → (c : Counters) → well_store s ≡ true → counter_beyond new (counters_of s.counters) ≡ false → counters_of c ≡ counted new (counters_of s.counters)
-      → record { outcome = Done; number = s.counters.next; store = record { files = s.files; counts = s.counts; pointers = s.pointers; counters = c } } ≡ handed s (on_store s (calls.new_number full))
-  unfolding handed outcome_of on_answer state_of
+      → Ok (record { number = s.counters.next; store = counting s c }) ≡ handed (on_store s (calls.new_number full))
+  unfolding handed handed_record result_of on_answer state_of
   new_done q c h b e =
       let w = (well_says s).0 h in
       let a = new_on h ∙ ap (on_answer with_next) (counter_gives (state_of s) new w.formed b) in
       let kept = other_counters s q w.sound c ∙ ap (λ (x : model.Counters). store_of (set_counters (state_of s) x)) e in
-      (λ i. record { outcome = Done; number = s.counters.next; store = kept i }) ∙ ap (handed s) (sym a)
+      (λ i. Ok (record { number = s.counters.next; store = kept i })) ∙ ap handed (sym a)
 
 -- next after mark and reuse
 module _ (n : ℕ) (c : Counters) where
