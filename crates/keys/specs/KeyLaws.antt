@@ -21,7 +21,7 @@ use Rattle.model.specs.Key as model
 use Rattle.model.specs.File.{full, key_room, longest_user}
 use Rattle.keys.specs.declared.Key.{Key}
 use Rattle.keys.specs.declared.UserKey.{UserKey}
-use Rattle.octets.specs.declared.Order.TheVariants.{Less, Equal, Greater}
+use Rattle.std.specs.declared.cmp.Ordering.TheVariants.{Less, Equal, Greater}
 use Rattle.octets.specs.Octets.{is_zero, standing}
 use Rattle.octets.specs.StandingLaws.{standing_less, standing_equal, standing_greater}
 use Rattle.keys.specs.Key.{held, key_of, user_of, padded, key_record, user_record, sound, sound_key, laid}

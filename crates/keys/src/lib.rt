@@ -8,7 +8,7 @@ ghost use Rattle.model.specs.File.{full, key_room};
 ghost use Rattle.octets.specs.Octets.{standing, is_zero};
 ghost use Rattle.keys.specs.Key.{key_of, user_of, key_record, user_record, sound, sound_key, sound_user, laid};
 
-use octets::Order;
+use std::cmp::Ordering;
 
 // The number of a table file. No call takes it as a sequence number.
 #[derive(Clone, Copy)]
@@ -209,7 +209,7 @@ pub fn user_key(k: Key) -> UserKey
 }
 
 // The order of a user key to the user key of an internal key. Internal.
-pub fn order_of_user(u: UserKey, k: Key) -> Order
+pub fn order_of_user(u: UserKey, k: Key) -> Ordering
     ensures { result ≡ standing model.user_before (user_of u) (model.user (key_of k)) }
 {
     let m = user_key_len(u);
@@ -218,7 +218,7 @@ pub fn order_of_user(u: UserKey, k: Key) -> Order
 }
 
 // The order of two user keys. Internal.
-pub fn order_of_user_keys(u: UserKey, v: UserKey) -> Order
+pub fn order_of_user_keys(u: UserKey, v: UserKey) -> Ordering
     ensures { result ≡ standing model.user_before (user_of u) (user_of v) }
 {
     let m = user_key_len(u);
@@ -236,35 +236,30 @@ pub fn is_before(a: Key, b: Key) -> bool
 }
 
 // The order of two internal keys. Internal.
-pub fn order_of_keys(a: Key, b: Key) -> Order
+pub fn order_of_keys(a: Key, b: Key) -> Ordering
     ensures { result ≡ standing model.before (key_of a) (key_of b) }
 {
     if is_before(a, b) {
-        return Order::Less;
+        return Ordering::Less;
     }
     if is_before(b, a) {
-        return Order::Greater;
+        return Ordering::Greater;
     }
-    Order::Equal
+    Ordering::Equal
 }
 
 // Whether a user key is strictly before the user key of an internal key. Internal.
 pub fn user_is_before(u: UserKey, k: Key) -> bool
     ensures { result ≡ model.user_before (user_of u) (model.user (key_of k)) }
 {
-    octets::is_less(order_of_user(u, k))
+    order_of_user(u, k).is_lt()
 }
 
 // Whether a user key is strictly after the user key of an internal key. Internal.
 pub fn user_is_after(u: UserKey, k: Key) -> bool
     ensures { result ≡ model.user_before (model.user (key_of k)) (user_of u) }
 {
-    let o = order_of_user(u, k);
-    match o {
-        Order::Less => false,
-        Order::Equal => false,
-        Order::Greater => true,
-    }
+    order_of_user(u, k).is_gt()
 }
 
 // Whether the user key of an internal key is strictly before that of another. Internal.
@@ -273,14 +268,14 @@ pub fn user_precedes(a: Key, b: Key) -> bool
 {
     let m = user_len(a);
     let n = user_len(b);
-    octets::is_less(octets::order_of(&a.bytes, m, &b.bytes, n))
+    octets::order_of(&a.bytes, m, &b.bytes, n).is_lt()
 }
 
 // Whether a user key is strictly before another. Internal.
 pub fn user_key_is_before(u: UserKey, v: UserKey) -> bool
     ensures { result ≡ model.user_before (user_of u) (user_of v) }
 {
-    octets::is_less(order_of_user_keys(u, v))
+    order_of_user_keys(u, v).is_lt()
 }
 
 // Whether a key has a right length and a right type.

@@ -12,7 +12,7 @@ use Rattle.lemmas.specs.AreBytes.{bytes_take, bytes_drop}
 use Rattle.lemmas.specs.Big.{big, big_order, big_same}
 use Rattle.lemmas.specs.Order.{lexb}
 use Rattle.lemmas.specs.Lex as lex
-use Rattle.octets.specs.declared.Order.TheVariants.{Less, Equal, Greater}
+use Rattle.std.specs.declared.cmp.Ordering.TheVariants.{Less, Equal, Greater}
 use Rattle.octets.specs.Octets.{standing}
 use Rattle.octets.specs.StandingLaws.{stands_less, stands_greater, stands_equal}
 

@@ -11,7 +11,7 @@ use Rattle.lemmas.specs.AreBytes.{bytes_take}
 use Rattle.lemmas.specs.Big.{big}
 use Rattle.lemmas.specs.Lex.{not_both}
 use Rattle.lemmas.specs.Order.{lexb}
-use Rattle.octets.specs.declared.Order.TheVariants.{Less, Equal, Greater}
+use Rattle.std.specs.declared.cmp.Ordering.TheVariants.{Less, Equal, Greater}
 use Rattle.octets.specs.Octets.{standing}
 use Rattle.octets.specs.StandingLaws.{stands_less, stands_greater}
 use Rattle.octets.proofs.Runs.{both_end, left_ends, right_ends, part_less, part_same}

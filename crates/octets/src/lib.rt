@@ -5,26 +5,9 @@ ghost use Rattle.std.specs.Prelude.{◌≡◌, ◌+◌, ◌-◌, ◌/◌, ◌%�
 ghost use Rattle.lemmas.specs.Order.{lexb};
 ghost use Rattle.lemmas.specs.Lists.{all};
 ghost use Rattle.lemmas.specs.Big.{big};
-ghost use Rattle.octets.specs.Octets.{standing, less, is_zero};
+ghost use Rattle.octets.specs.Octets.{standing, is_zero};
 
-// How two things stand in an order.
-#[derive(Clone, Copy)]
-pub enum Order {
-    Less,
-    Equal,
-    Greater,
-}
-
-// Whether the first is before the second. Internal.
-pub fn is_less(o: Order) -> bool
-    ensures { result ≡ less o }
-{
-    match o {
-        Order::Less => true,
-        Order::Equal => false,
-        Order::Greater => false,
-    }
-}
+use std::cmp::Ordering;
 
 // A byte as a number of 64 bits. Internal.
 pub fn wide(x: u8) -> u64
@@ -73,7 +56,7 @@ pub fn front(x: u64, c: usize) -> u64
 
 // The order of the first bytes of two rooms: the first difference decides, and a proper prefix is first. Internal. Requires: both lengths are within their rooms,
 // and both rooms are whole words.
-pub fn order_of(a: &[u8], m: usize, b: &[u8], n: usize) -> Order
+pub fn order_of(a: &[u8], m: usize, b: &[u8], n: usize) -> Ordering
     requires { (m ≤ length a.now) × (length a.now % 8 ≡ 0) × (n ≤ length b.now) × (length b.now % 8 ≡ 0) }
     ensures { result ≡ standing lexb (take m a.now) (take n b.now) }
 {
@@ -83,20 +66,20 @@ pub fn order_of(a: &[u8], m: usize, b: &[u8], n: usize) -> Order
         let x = front(word(a, i), both - i);
         let y = front(word(b, i), both - i);
         if x < y {
-            return Order::Less;
+            return Ordering::Less;
         }
         if y < x {
-            return Order::Greater;
+            return Ordering::Greater;
         }
         i += 8;
     }
     if m < n {
-        return Order::Less;
+        return Ordering::Less;
     }
     if n < m {
-        return Order::Greater;
+        return Ordering::Greater;
     }
-    Order::Equal
+    Ordering::Equal
 }
 
 // Whether all bytes of a room from a place on are 0. In the first word, the bytes before the place are shifted out. Internal. Requires: the place is within the

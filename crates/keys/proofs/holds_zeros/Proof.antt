@@ -1,7 +1,7 @@
 -- `keys::holds_zeros` meets its contract. The loop's invariant: all bytes are 0 if those before i were and those from i on are. Assumes nothing.
 use Prim.Native.Nat.{◌-◌, ◌+◌, ◌≤◌}
 use mathlib.Core.Path.{◌≡◌, refl, sym, ap, ◌∙◌}
-use mathlib.Core.Logic.{◌⊎◌, ⊎_elim}
+use mathlib.Core.Logic.{⊎_elim}
 use mathlib.Core.Bool.{true, false, ◌&&◌, and-false}
 use mathlib.Core.List.{◌∷◌}
 use native.Mathlib.Omega.{arith}
