@@ -1,11 +1,12 @@
 -- Laws of refusals and their numbers, and of the outcome of a list of tests. Assumes nothing.
-use Rattle.std.specs.Prelude.{ℕ, ◌≡◌, refl, Bool, true, false, cond, List, [], ◌∷◌, ◌++◌, Result, Ok, Err}
+use Rattle.std.specs.Prelude.{ℕ, ◌≡◌, refl, Bool, true, false, cond, List, [], ◌∷◌, ◌++◌, Result, Ok, Err, IsErrAnd}
 use Rattle.std.proofs.Common.{sym, ◌∙◌}
 use Rattle.std.proofs.Math.Path.{ap}
+use Rattle.std.proofs.lemmas.Result.{err_from_is_err_and}
 use Rattle.lemmas.specs.Order.{clash}
 use Rattle.model.specs.Answer.{Answer, gives, refused, Refusal, first_of, ◌⇒◌}
-use Rattle.model.specs.AnswerLaws.{NoneApplies, first_of_gives}
-use Rattle.answers.specs.Outcome.{number_of, refusal_of, outcome_of, passed}
+use Rattle.model.specs.AnswerLaws.{NoneApplies, first_of_gives, first_of_passes}
+use Rattle.answers.specs.Outcome.{number_of, refusal_of, outcome_of, result_of, passed}
 use Rattle.answers.specs.declared.Refusal as code
 use Rattle.answers.specs.declared.Refusal.TheVariants.{Level, Key, Entries, Ends, Size, Twice, Collision, Room, Counter, Nothing, LastLevel, Backwards, Output, Form, Record}
 
@@ -104,3 +105,41 @@ passed_none rs e = go (first_of rs rs) refl
     go : (a : Answer (List Refusal)) → first_of rs rs ≡ a → NoneApplies rs
     go (gives t) q = (first_of_gives rs rs t q).none_applies
     go (refused n) q = let f = rw q at e in let z : true ≡ false = cc in clash refl z
+
+-- one test alone
+module _ (b : Bool) (n : ℕ) where
+  -- refused: the test applies, and its number is the refusal's
+  pub one_refused : (r : code.Refusal) → passed ((b ⇒ n) ∷ []) ≡ Err r → (b ≡ true) × (r ≡ refusal_of n)
+  one_refused r e = go b refl
+    where
+      go : (t : Bool) → b ≡ t → (b ≡ true) × (r ≡ refusal_of n)
+      go true f = (f, cc (e, passed_here b n [] f))
+      go false f = let z : true ≡ false = cc (e, passed_later b n [] f, passed_nil) in clash refl z
+
+  -- done: it does not apply
+  pub one_done : (u : Unit) → passed ((b ⇒ n) ∷ []) ≡ Ok u → b ≡ false
+  one_done u e = go b refl
+    where
+      go : (t : Bool) → b ≡ t → b ≡ false
+      go true f = let z : true ≡ false = cc (e, passed_here b n [] f) in clash refl z
+      go false f = f
+
+-- a call that makes these tests and then has a result
+module _ {A B : Type 0} (f : A → B) (a : A) where
+  -- a test refuses: so does the call
+  pub result_refused : (rs : List Refusal) (r : code.Refusal) → passed rs ≡ Err r → result_of f (first_of rs a) ≡ Err r
+  unfolding passed outcome_of result_of first_of
+  result_refused rs r e = go (first_of rs a) refl (sym (passed_is rs a) ∙ e)
+    where
+      go : (x : Answer A) → first_of rs a ≡ x → outcome_of x ≡ Err r → result_of f x ≡ Err r
+      go (gives y) q h = cc
+      go (refused n) q h = cc
+
+  -- none does: the call has its result
+  pub result_given : (rs : List Refusal) (u : Unit) → passed rs ≡ Ok u → result_of f (first_of rs a) ≡ Ok (f a)
+  unfolding result_of
+  result_given rs u e = ap (result_of f) (first_of_passes rs a (passed_none rs e))
+
+-- the result of a call that hands on a refusal by `?`
+pub handed_on : {T : Type 0} (x : Result T code.Refusal) (r : code.Refusal) → IsErrAnd x (λ e. e ≡ r) → x ≡ Err r
+handed_on x r h = let p = err_from_is_err_and x h in p.1 ∙ ap Err p.2

@@ -1,21 +1,28 @@
--- The answers of the model that the answers of calls on keys stand for. Assumes nothing.
-use Rattle.std.specs.Prelude.{[]}
-use Rattle.model.specs.Answer.{Answer, gives, refused}
+-- The results of calls on keys by value. Assumes nothing.
+use Rattle.std.specs.Prelude.{Result}
+use Rattle.std.specs.declared.cmp.Ordering.{Ordering}
+use Rattle.std.specs.declared.cmp.Ordering.TheVariants.{Less, Equal, Greater}
+use Rattle.model.specs.Answer.{Answer}
 use Rattle.model.specs.Key as model
-use Rattle.answers.specs.declared.Outcome.TheVariants as outcome
+use Rattle.answers.specs.Outcome.{result_of}
+use Rattle.answers.specs.declared.Refusal.{Refusal}
 use Rattle.keys.specs.Key.{user_record}
-use Rattle.key_calls.specs.declared.Compared.{Compared}
-use Rattle.key_calls.specs.declared.Compared.TheVariants.{Before, Same, After, Refused}
 use Rattle.key_calls.specs.declared.Parsed.{Parsed}
 
--- how the keys stand, or the refusal's number
-unfoldable pub compared_of : Compared → Answer model.Ordering
-compared_of Before = gives model.is_less
-compared_of Same = gives model.is_equal
-compared_of After = gives model.is_greater
-compared_of (Refused n) = refused n
+-- how two keys stand, by value
+unfoldable pub ordering_of : model.Ordering → Ordering
+ordering_of model.is_less = Less
+ordering_of model.is_equal = Equal
+ordering_of model.is_greater = Greater
 
--- the parts of a key by value. Beside a refusal they are zeros and no bytes
-unfoldable pub parsed : Answer model.Parts → Parsed
-parsed (gives p) = record { outcome = outcome.Done; kind = p.kind; sequence = record { 0 = p.sequence }; user = user_record p.user }
-parsed (refused n) = record { outcome = outcome.Refused n; kind = 0; sequence = record { 0 = 0 }; user = user_record [] }
+-- how the keys stand, or the refusal
+unfoldable pub compared : Answer model.Ordering → Result Ordering Refusal
+compared a = result_of ordering_of a
+
+-- the parts of a key by value
+unfoldable pub parsed_record : model.Parts → Parsed
+parsed_record p = record { kind = p.kind; sequence = record { 0 = p.sequence }; user = user_record p.user }
+
+-- the parts of a key, or the refusal
+unfoldable pub parsed : Answer model.Parts → Result Parsed Refusal
+parsed a = result_of parsed_record a
