@@ -1,7 +1,7 @@
 -- Laws of lists of one level: a list of files has one sound list by value, what well-formed says, and the answers of calls on a list. Assumes nothing.
 use Prim.Native.Nat.{ℕ, zero, suc, ◌+◌, ◌≤◌, ◌<◌, min}
 use Rattle.std.proofs.Math.Path.{◌≡◌, ap}
-use Rattle.std.specs.Prelude.{refl, ◌↔◌, Bool, ◌&&◌, cond, ltb, length, take, set, replicate}
+use Rattle.std.specs.Prelude.{refl, ◌↔◌, Bool, ◌&&◌, cond, ltb, length, take, set, replicate, Some, None, Ok}
 use Rattle.std.proofs.Common.{sym, ◌∙◌, length-take-le}
 use Rattle.std.proofs.Math.Bool.{true, false}
 use mathlib.Core.List.{List, [], ◌∷◌, ◌++◌, map, append-nil}
@@ -12,7 +12,7 @@ use Rattle.std.proofs.lemmas.List.{length-map}
 use Rattle.std.proofs.Math.Seq.{slice}
 use Rattle.lemmas.specs.Lists.{all, chain, find, join, sum, is_empty}
 use Rattle.lemmas.specs.ListLaws.{and_left, and_right, and_true, both, all_in}
-use Rattle.lemmas.specs.Slices.{put, put_nil, parts, sum_upto}
+use Rattle.lemmas.specs.Slices.{put, parts, sum_upto}
 use Rattle.model.specs.Answer.{Answer, gives, refused, Refusal, ◌⇒◌, first_of}
 use Rattle.model.specs.File.{File, full, level, total, in_order, levelwise, good_file, good_files, level_count, max_files, max_word}
 use Rattle.model.specs.Range.{low_key, high_key}
@@ -20,8 +20,7 @@ use Rattle.model.specs.Pick.{good_level}
 use Rattle.model.proofs.PickedLaws.{good_level_says}
 use Rattle.model.specs.Calls as calls
 use Rattle.model.specs.Calls.{lent_list, total_size, get_range}
-use Rattle.answers.specs.Outcome.{outcome_of}
-use Rattle.answers.specs.declared.Outcome.TheVariants.{Done}
+use Rattle.answers.specs.Outcome.{result_of}
 use Rattle.records.specs.Record.{file_of, record_of, vacant, sound_record, AllShaped}
 use Rattle.records.specs.RecordLaws.{total_bound}
 use Rattle.records.specs.Run.{run, ends_of}
@@ -32,7 +31,7 @@ use Rattle.store.specs.declared.Store.{Store}
 use Rattle.store.specs.Store.{state_of, well_store, on_store}
 use Rattle.store.specs.StoreLaws as store
 use Rattle.level_list.specs.declared.FileList.{FileList}
-use Rattle.level_list.specs.List.{files_of, list_of, sound_list, well_list, on_list, ranged, level_files}
+use Rattle.level_list.specs.List.{files_of, list_of, sound_list, well_list, on_list, ends_record, ranged, level_files}
 
 -- ---- one list of files, one sound list by value
 
@@ -231,11 +230,17 @@ module _ (n : ℕ) (l : FileList) where
   unfolding get_range lent_list first_of
   range_good h w = lent_good n l (λ fs. []) calls.ends_of h w
 
--- by value: there is a range exactly if there are files
-pub ranged_is : (k : ℕ) (fs : List File) → length fs ≡ k → record { outcome = Done; found = ltb 0 k; ends = ends_of fs } ≡ ranged (gives (calls.ends_of fs))
-unfolding ranged ends_of calls.ends_of outcome_of is_empty low_key high_key find
-ranged_is k [] e = rw (le-ltb 0 k (omega arith))
-ranged_is k (f ∷ fs) e = rw (lt-ltb 0 k (omega arith))
+-- by value: no files, no range
+pub ranged_none : (fs : List File) → length fs < 1 → Ok None ≡ ranged (gives (calls.ends_of fs))
+unfolding ranged ends_record result_of calls.ends_of is_empty
+ranged_none [] h = refl
+ranged_none (f ∷ fs) h = absurd (omega arith)
+
+-- else the ends of the files
+pub ranged_some : (fs : List File) → 1 ≤ length fs → Ok (Some (ends_of fs)) ≡ ranged (gives (calls.ends_of fs))
+unfolding ranged ends_record result_of ends_of calls.ends_of is_empty low_key high_key find
+ranged_some [] h = absurd (omega arith)
+ranged_some (f ∷ fs) h = refl
 
 -- the files of a list are the run of its first places
 pub files_run : (l : FileList) → run 0 l.count l.files ≡ files_of l
@@ -250,11 +255,6 @@ files_count n l q w =
     length-map (take l.count l.files) file_of ∙ length-take-le l.count l.files (omega arith)
 
 -- ---- the files of a level of a store
-
--- the empty list by value
-pub none_listed : record { files = vacant max_files; count = 0 } ≡ list_of []
-unfolding list_of full
-none_listed = sym (ap (λ (rs : List FileRecord). record { files = rs; count = 0 }) (put_nil (vacant max_files) 0))
 
 module _ (s : Store) (n : ℕ) where
   -- not well-formed: 14

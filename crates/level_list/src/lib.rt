@@ -4,15 +4,15 @@
 ghost use Rattle.std.specs.Prelude.{◌≡◌, true, ◌≤◌};
 ghost use Rattle.std.proofs.Math.Seq.{slice};
 ghost use Rattle.lemmas.specs.Lists.{all};
-ghost use Rattle.model.specs.Answer.{refused};
 ghost use Rattle.model.specs.File.{full, max_files};
 ghost use Rattle.model.specs.Calls as calls;
+ghost use Rattle.answers.specs.Outcome.{answer_of};
 ghost use Rattle.records.specs.Record.{sound_record};
 ghost use Rattle.records.specs.Run.{run};
 ghost use Rattle.store.specs.Store.{on_store};
-ghost use Rattle.level_list.specs.List.{list_of, well_list, on_list, totalled_of, ranged, level_files, listed};
+ghost use Rattle.level_list.specs.List.{list_of, well_list, on_list, ranged, level_files, listed};
 
-use answers::{Outcome, Refusal};
+use answers::Refusal;
 use records::{Ends, FileRecord, Level, Version};
 use store::Store;
 
@@ -21,29 +21,6 @@ use store::Store;
 pub struct FileList {
     pub files: [FileRecord; Version::ROOM],
     pub count: usize,
-}
-
-// A list of files, or the number of the refusal.
-#[derive(Clone, Copy)]
-pub struct Listed {
-    pub outcome: Outcome,
-    pub list: FileList,
-}
-
-// The bytes of a list, or the number of the refusal.
-#[derive(Clone, Copy)]
-pub enum Totalled {
-    Bytes(u64),
-    Refused(u8),
-}
-
-// The range of a list.
-#[derive(Clone, Copy)]
-pub struct Ranged {
-    pub outcome: Outcome,
-    // Whether the list has files. If not, the ends are blank.
-    pub found: bool,
-    pub ends: Ends,
 }
 
 // The records of a run as a list. Internal. Requires: the run is within the room, and its records are sound.
@@ -67,39 +44,18 @@ pub fn list_of(files: [FileRecord; Version::ROOM], from: usize, to: usize) -> Fi
 }
 
 // The files of a level of a store.
-pub fn level_files(s: Store, level: usize) -> Listed
+pub fn level_files(s: Store, level: usize) -> Result<FileList, Refusal>
     ensures { result ≡ listed (on_store s (λ t. level_files t level)) }
 {
     if !store::is_well_formed(s) {
-        return nothing(Refusal::FORM);
+        return Err(Refusal::Form);
     }
     if Level::COUNT <= level {
-        return nothing(Refusal::LEVEL);
+        return Err(Refusal::Level);
     }
-    let counts = s.counts;
-    let from = levels::start_of(counts, level);
-    let to = from + counts[level];
-    let files = s.files;
-    let outcome = Outcome::Done;
-    Listed {
-        outcome: outcome,
-        list: list_of(files, from, to),
-    }
-}
-
-// No files, with the number of the refusal. Internal.
-pub fn nothing(n: u8) -> Listed
-    ensures { result ≡ listed (refused n) }
-{
-    let outcome = Outcome::Refused(n);
-    let files = records::blanks();
-    Listed {
-        outcome: outcome,
-        list: FileList {
-            files: files,
-            count: 0,
-        },
-    }
+    let from = levels::start_of(s.counts, level);
+    let to = from + s.counts[level];
+    Ok(list_of(s.files, from, to))
 }
 
 // Whether a list is a well-formed level. All levels above 0 have the same order, so the list is tested as level 0 or level 1 of seven with the others empty.
@@ -117,53 +73,31 @@ pub fn is_well_formed(level: usize, l: FileList) -> bool
 }
 
 // The bytes of a list of one level: the sum of its files' sizes.
-pub fn total_size(level: usize, l: FileList) -> Totalled
-    ensures { totalled_of result ≡ on_list level l (calls.total_size full level) }
+pub fn total_size(level: usize, l: FileList) -> Result<u64, Refusal>
+    ensures { answer_of result ≡ on_list level l (calls.total_size full level) }
 {
     if Level::COUNT <= level {
-        return Totalled::Refused(Refusal::LEVEL);
+        return Err(Refusal::Level);
     }
     if !is_well_formed(level, l) {
-        return Totalled::Refused(Refusal::FORM);
+        return Err(Refusal::Form);
     }
-    let files = l.files;
-    Totalled::Bytes(records::total_size(files, 0, l.count))
+    Ok(records::total_size(l.files, 0, l.count))
 }
 
 // The smallest and the largest key of a list of one level, none for no files.
-pub fn get_range(level: usize, l: FileList) -> Ranged
+pub fn get_range(level: usize, l: FileList) -> Result<Option<Ends>, Refusal>
     ensures { result ≡ ranged (on_list level l (calls.get_range full level)) }
 {
     if Level::COUNT <= level {
-        return no_range(Refusal::LEVEL);
+        return Err(Refusal::Level);
     }
     if !is_well_formed(level, l) {
-        return no_range(Refusal::FORM);
+        return Err(Refusal::Form);
     }
-    let files = l.files;
-    let ends = records::get_range(files, 0, l.count);
-    let outcome = Outcome::Done;
-    Ranged {
-        outcome: outcome,
-        found: 0 < l.count,
-        ends: ends,
+    let none = l.count < 1;
+    if none {
+        return Ok(None);
     }
-}
-
-// No range, with the number of the refusal.
-fn no_range(n: u8) -> Ranged
-    ensures { result ≡ ranged (refused n) }
-{
-    let outcome = Outcome::Refused(n);
-    let low = keys::blank_key();
-    let high = keys::blank_key();
-    let ends = Ends {
-        low: low,
-        high: high,
-    };
-    Ranged {
-        outcome: outcome,
-        found: false,
-        ends: ends,
-    }
+    Ok(Some(records::get_range(l.files, 0, l.count)))
 }
