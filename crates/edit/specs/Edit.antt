@@ -1,14 +1,13 @@
 -- The edit of the model that an edit by value stands for. Assumes nothing.
-use Rattle.std.specs.Prelude.{ℕ, ◌+◌, ◌-◌, cond, List, [], map, ◌++◌, ltb, take, set, replicate}
-use Rattle.std.proofs.Math.Option.{Option, none, some}
+use Rattle.std.specs.Prelude.{ℕ, ◌+◌, ◌-◌, cond, List, [], map, ◌++◌, ltb, take, set, replicate, Option, Some, None}
+use Rattle.std.proofs.Math.Option as math
 use Rattle.model.specs.File.{max_additions, max_deletions, max_pointers, max_word}
 use Rattle.model.specs.Edit as model
 use Rattle.keys.specs.Key.{key_of, key_record}
 use Rattle.edit.specs.declared.Deletion.{Deletion}
 use Rattle.edit.specs.declared.Addition.{Addition}
 use Rattle.edit.specs.declared.Pointing.{Pointing}
-use Rattle.edit.specs.declared.NewLog.{NewLog}
-use Rattle.edit.specs.declared.NewLog.TheVariants.{Keeps, Becomes}
+use Rattle.keys.specs.declared.FileNumber.{FileNumber}
 use Rattle.edit.specs.declared.Edit.{Edit}
 
 -- the entries that a count names: those of the array, and for a count beyond the room blank ones more, so that the edit has too many
@@ -40,9 +39,9 @@ unfoldable pub pointing_of : Pointing → model.Pointer
 pointing_of p = record { level = p.level; key = key_of p.key }
 
 -- the log number that an edit names, if any
-unfoldable pub log_of : NewLog → Option ℕ
-log_of Keeps = none
-log_of (Becomes n) = some n.0
+unfoldable pub log_of : Option FileNumber → math.Option ℕ
+log_of None = math.none
+log_of (Some n) = math.some n.0
 
 -- the edit that a record stands for
 unfoldable pub edit_of : Edit → model.Edit
@@ -62,7 +61,7 @@ empty_record = record {
   deletion_count = 0;
   additions = replicate max_additions blank_addition;
   addition_count = 0;
-  log = Keeps;
+  log = None;
 }
 
 -- one more than a count. At the largest number it stays
@@ -106,7 +105,7 @@ with_pointing e p = record {
 }
 
 -- the same edit with another log number, or none
-unfoldable pub with_log : Edit → NewLog → Edit
+unfoldable pub with_log : Edit → Option FileNumber → Edit
 with_log e n = record {
   pointings = e.pointings;
   pointing_count = e.pointing_count;

@@ -1,6 +1,6 @@
 -- Laws of edits by value: the entries that a record holds, and one entry more. Assumes nothing.
 use Rattle.std.specs.Prelude.{ℕ, ◌+◌, ◌-◌, ◌≤◌, ◌<◌, ◌≡◌, refl, Bool, true, false, not, ◌&&◌, cond, List, [], ◌∷◌, ◌++◌, map, ltb, leb, length, take, set, replicate}
-use Rattle.std.proofs.Common.{sym, ◌∙◌, append-nil, add-one, take-suc-set, ltb-false, leb-true, lt-ltb, le-leb}
+use Rattle.std.proofs.Common.{◌^◌, min, sym, ◌∙◌, append-nil, add-one, take-suc-set, ltb-true, ltb-false, leb-true, lt-ltb, le-leb}
 use Rattle.std.proofs.Math.Path.{ap}
 use Rattle.std.proofs.lemmas.List.{map-append}
 use native.Mathlib.Omega.{arith}
@@ -45,6 +45,15 @@ module _ {A : Type 0} (room : ℕ) (blank : A) (count : ℕ) (l : List A) where
 pub one_more_in : (n : ℕ) → n < max_word → one_more n ≡ n + 1
 unfolding one_more
 one_more_in n h = rw (lt-ltb n max_word h)
+
+-- a sum that stops at the largest number is one more
+pub one_more_least : (n : ℕ) → n ≤ max_word → min (n + 1) (2 ^ 64 - 1) ≡ one_more n
+unfolding one_more
+one_more_least n h = go (ltb n max_word) refl
+  where
+    go : (t : Bool) → ltb n max_word ≡ t → min (n + 1) (2 ^ 64 - 1) ≡ cond t (n + 1) n
+    go true e = let b = ltb-true n max_word e in omega arith
+    go false e = let b = ltb-false n max_word e in omega arith
 
 -- one more than a full count is beyond the room
 pub one_more_past : (n room : ℕ) → room < max_word → room ≤ n → room < one_more n

@@ -30,13 +30,6 @@ pub struct Pointing {
     pub key: Key,
 }
 
-// The log number that an edit names, if any.
-#[derive(Clone, Copy)]
-pub enum NewLog {
-    Keeps,
-    Becomes(FileNumber),
-}
-
 // An edit. Each kind of entry has an array and a count.
 #[derive(Clone, Copy)]
 pub struct Edit {
@@ -46,17 +39,8 @@ pub struct Edit {
     pub deletion_count: usize,
     pub additions: [Addition; Edit::ADDITIONS],
     pub addition_count: usize,
-    pub log: NewLog,
-}
-
-// One more than a count. At the largest number it stays.
-fn one_more(n: usize) -> usize
-    ensures { result ≡ one_more n }
-{
-    if n < Word::LARGEST as usize {
-        return n + 1;
-    }
-    n
+    // The new log number, if the edit names one.
+    pub log: Option<FileNumber>,
 }
 
 impl Edit {
@@ -74,9 +58,8 @@ impl Edit {
         ensures { result ≡ empty_record }
     {
         let key = keys::blank_key();
-        let log = NewLog::Keeps;
         Edit {
-            pointings: [Pointing { level: 0, key: key }; Edit::POINTINGS],
+            pointings: [Pointing { level: 0, key }; Edit::POINTINGS],
             pointing_count: 0,
             deletions: [Deletion {
                 level: 0,
@@ -91,7 +74,7 @@ impl Edit {
                 largest: key,
             }; Edit::ADDITIONS],
             addition_count: 0,
-            log: log,
+            log: None,
         }
     }
 
@@ -104,7 +87,7 @@ impl Edit {
         if n < Edit::DELETIONS {
             e.deletions[n] = d;
         }
-        e.deletion_count = one_more(n);
+        e.deletion_count = n.saturating_add(1);
         e
     }
 
@@ -117,7 +100,7 @@ impl Edit {
         if n < Edit::ADDITIONS {
             e.additions[n] = a;
         }
-        e.addition_count = one_more(n);
+        e.addition_count = n.saturating_add(1);
         e
     }
 
@@ -130,25 +113,14 @@ impl Edit {
         if n < Edit::POINTINGS {
             e.pointings[n] = p;
         }
-        e.pointing_count = one_more(n);
+        e.pointing_count = n.saturating_add(1);
         e
     }
 
     // The same edit with another log number, or none.
-    pub fn with_log(self, log: NewLog) -> Edit
+    pub fn with_log(self, log: Option<FileNumber>) -> Edit
         ensures { result ≡ with_log self log }
     {
-        let pointings = self.pointings;
-        let deletions = self.deletions;
-        let additions = self.additions;
-        Edit {
-            pointings: pointings,
-            pointing_count: self.pointing_count,
-            deletions: deletions,
-            deletion_count: self.deletion_count,
-            additions: additions,
-            addition_count: self.addition_count,
-            log: log,
-        }
+        Edit { log, ..self }
     }
 }
