@@ -1,5 +1,5 @@
 -- Laws of the tests of an edit's entries: their order, and what is known of an edit that passes them. Assumes nothing.
-use Rattle.std.specs.Prelude.{ℕ, ◌+◌, ◌≤◌, ◌<◌, ◌≡◌, refl, true, false, not, ◌&&◌, List, [], ◌∷◌, ◌++◌, map, ltb, leb, length, get_or, take}
+use Rattle.std.specs.Prelude.{ℕ, ◌+◌, ◌≤◌, ◌<◌, ◌≡◌, refl, true, false, not, ◌&&◌, List, [], ◌∷◌, ◌++◌, map, ltb, leb, length, get_or, take, Result, Ok, Err}
 use Rattle.std.proofs.Common.{sym, ◌∙◌, append_assoc, arith, lt-ltb, le-leb}
 use Rattle.std.proofs.Math.Path.{ap}
 use mathlib.Core.List.Memᴰ.{append_left as in_left}
@@ -7,7 +7,7 @@ use mathlib.Core.List.Memᴰ.{append_right as in_right}
 use mathlib.Core.List.Memᴰ.{head as here}
 use mathlib.Core.List.Memᴰ.{tail as there}
 use Rattle.std.proofs.Math.Seq.{slice}
-use Rattle.lemmas.specs.Lists.{all}
+use Rattle.lemmas.specs.Lists.{all, join}
 use Rattle.lemmas.specs.ListLaws.{both, all_in}
 use Rattle.lemmas.specs.Slices.{drop_view, view_end}
 use Rattle.model.specs.Answer.{Refusal, ◌⇒◌}
@@ -20,8 +20,8 @@ use Rattle.model.specs.Edit.{too_many, bad_log, pointer_refusals, deletion_refus
 use Rattle.model.proofs.EditLaws.{AdditionFits, pointers_fit, deletions_fit, additions_fit}
 use Rattle.answers.specs.Outcome.{passed}
 use Rattle.answers.specs.OutcomeLaws.{passed_nil, passed_here, passed_later, passed_refused, passed_done, passed_none}
-use Rattle.answers.specs.declared.Outcome.{Outcome}
-use Rattle.answers.specs.declared.Outcome.TheVariants.{Done, Refused}
+use Rattle.answers.specs.declared.Refusal as code
+use Rattle.answers.specs.declared.Refusal.TheVariants.{Entries, Counter}
 use Rattle.edit.specs.declared.Addition.{Addition}
 use Rattle.edit.specs.declared.Deletion.{Deletion}
 use Rattle.edit.specs.declared.Pointing.{Pointing}
@@ -40,11 +40,11 @@ pub record Kind (A B : Type 0) : Type 0 where
 
 module _ {A B : Type 0} (k : Kind A B) (count : ℕ) (l : List A) where
   -- the outcome of the tests of the first `count` entries
-  abbrev pub all_tests : Outcome
+  abbrev pub all_tests : Result Unit code.Refusal
   all_tests = passed (k.tests (map k.read (take count l)))
 
   -- the outcome of the tests of those from i on
-  abbrev pub tests_from : ℕ → Outcome
+  abbrev pub tests_from : ℕ → Result Unit code.Refusal
   tests_from i = passed (k.tests (map k.read (slice i count l)))
 
   -- the loop's invariant: both outcomes are the same
@@ -53,7 +53,7 @@ module _ {A B : Type 0} (k : Kind A B) (count : ℕ) (l : List A) where
 
   module _ (i : ℕ) (now : Tested i) where
     -- no entry is left
-    pub entries_done : count ≤ i → Done ≡ all_tests
+    pub entries_done : count ≤ i → Ok tt ≡ all_tests
     entries_done h = sym (now.1 ∙ ap (λ (xs : List B). passed (k.tests xs)) (view_end k.read i count l now.0 h) ∙ ap passed k.none ∙ passed_nil)
 
     module _ (h : i < count) (room : count ≤ length l) where
@@ -72,11 +72,11 @@ module _ {A B : Type 0} (k : Kind A B) (count : ℕ) (l : List A) where
           ∙ ap passed (k.turn (k.read (get_or l i k.past)) (map k.read (slice (i + 1) count l)))
 
       -- the entry at i is refused: so is the edit
-      pub entry_refused : (n : ℕ) → passed here_tests ≡ Refused n → Refused n ≡ all_tests
-      entry_refused n q = sym (begins ∙ passed_refused later_tests here_tests n q)
+      pub entry_refused : (r : code.Refusal) → passed here_tests ≡ Err r → Err r ≡ all_tests
+      entry_refused r q = sym (begins ∙ passed_refused later_tests here_tests r q)
 
       -- it is not: the entries after it decide
-      pub entry_done : passed here_tests ≡ Done → Tested (i + 1)
+      pub entry_done : passed here_tests ≡ Ok tt → Tested (i + 1)
       entry_done q = (omega arith, begins ∙ passed_done later_tests here_tests q)
 
 -- ---- the three kinds
@@ -122,16 +122,22 @@ additions_turn x xs = refl
 abbrev pub additions : Kind Addition model.Addition
 additions = record { read = addition_of; tests = addition_refusals full; past = past_addition; none = additions_none; turn = additions_turn }
 
+-- the tests of entries of a kind, one entry after another, are those of all
+pub each_in_turn : {A B : Type 0} (k : Kind A B) (l : List A) → join (map (λ (x : A). k.tests (k.read x ∷ [])) l) ≡ k.tests (map k.read l)
+unfolding join
+each_in_turn k [] = sym k.none
+each_in_turn k (x ∷ xs) = ap (λ (rs : List Refusal). k.tests (k.read x ∷ []) ++ rs) (each_in_turn k xs) ∙ sym (k.turn (k.read x) (map k.read xs))
+
 -- ---- the tests of an edit, in their order
 module _ (c : model_file.Counters) (e : model.Edit) where
   -- too many entries: 3
-  pub checks_many : too_many full e ≡ true → passed (checks c e) ≡ Refused 3
+  pub checks_many : too_many full e ≡ true → passed (checks c e) ≡ Err Entries
   unfolding checks
   checks_many h = passed_here (too_many full e) 3 ((bad_log c e.log ⇒ 9) ∷ entry_refusals full e) h
 
   module _ (few : too_many full e ≡ false) where
     -- then a bad log number: 9
-    pub checks_log : bad_log c e.log ≡ true → passed (checks c e) ≡ Refused 9
+    pub checks_log : bad_log c e.log ≡ true → passed (checks c e) ≡ Err Counter
     unfolding checks
     checks_log h =
         passed_later (too_many full e) 3 ((bad_log c e.log ⇒ 9) ∷ entry_refusals full e) few ∙ passed_here (bad_log c e.log) 9 (entry_refusals full e) h
@@ -171,7 +177,7 @@ fits_file a f =
     both (s && t && o) (leb a.file.size max_size) (both (s && t) o (both s t f.smallest f.largest) (rw f.order)) (le-leb a.file.size max_size f.size)
 
 -- if the tests are passed, each of them is
-pub checks_say : (c : model_file.Counters) (e : model.Edit) → passed (checks c e) ≡ Done → Checked c e
+pub checks_say : (c : model_file.Counters) (e : model.Edit) → passed (checks c e) ≡ Ok tt → Checked c e
 unfolding checks entry_refusals ◌⇒◌
 checks_say c e h =
     let none = passed_none (checks c e) h in

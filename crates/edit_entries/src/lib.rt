@@ -1,18 +1,88 @@
 // The tests of an edit's entries, before anything is built: too many of them, the log number, then each pointer, deletion and addition in turn.
 #![tactic(auto)]
 
-ghost use Rattle.std.specs.Prelude.{◌≡◌, false, [], ◌∷◌, map, ◌++◌, ◌≤◌, take};
-ghost use Rattle.model.specs.File.{full, max_additions, max_deletions, max_pointers};
+ghost use Rattle.std.specs.Prelude.{◌≡◌, List, map};
+ghost use Rattle.lemmas.specs.Lists.{join};
+ghost use Rattle.model.specs.Answer.{Refusal};
+ghost use Rattle.model.specs.File.{full};
 ghost use Rattle.model.specs.Edit as model;
 ghost use Rattle.counters.specs.Counters.{counters_of};
-ghost use Rattle.edit.specs.Edit.{deletion_of, addition_of, pointing_of, log_of, edit_of};
+ghost use Rattle.edit.specs.Edit.{log_of, edit_of};
 ghost use Rattle.answers.specs.Outcome.{passed};
-ghost use Rattle.edit_entries.specs.Entries.{checks};
+ghost use Rattle.edit_entries.specs.Entries.{pointing_tests, deletion_tests, addition_tests, checks};
 
-use answers::{Outcome, Refusal};
+use answers::Refusal;
 use counters::Counters;
-use edit::{Addition, Deletion, Edit, NewLog, Pointing};
+use edit::{Addition, Deletion, Edit, Pointing};
+use keys::FileNumber;
 use records::{FileRecord, Level};
+
+// An entry of an edit: the tests that it must pass, in the order of the documents.
+trait Entry: Copy {
+    ghost tests: { Self → List Refusal };
+
+    // The first of its tests that applies refuses it.
+    fn check(self) -> Result<(), Refusal>
+        ensures { result ≡ passed (tests self) };
+}
+
+impl Entry for Pointing {
+    ghost tests = { pointing_tests };
+
+    fn check(self) -> Result<(), Refusal> {
+        if Level::COUNT <= self.level {
+            return Err(Refusal::Level);
+        }
+        if !keys::is_good(self.key) {
+            return Err(Refusal::Key);
+        }
+        Ok(())
+    }
+}
+
+impl Entry for Deletion {
+    ghost tests = { deletion_tests };
+
+    fn check(self) -> Result<(), Refusal> {
+        if Level::COUNT <= self.level {
+            return Err(Refusal::Level);
+        }
+        Ok(())
+    }
+}
+
+impl Entry for Addition {
+    ghost tests = { addition_tests };
+
+    fn check(self) -> Result<(), Refusal> {
+        if Level::COUNT <= self.level {
+            return Err(Refusal::Level);
+        }
+        if !keys::is_good(self.smallest) {
+            return Err(Refusal::Key);
+        }
+        if !keys::is_good(self.largest) {
+            return Err(Refusal::Key);
+        }
+        if keys::is_before(self.largest, self.smallest) {
+            return Err(Refusal::Ends);
+        }
+        if FileRecord::LARGEST_SIZE < self.size {
+            return Err(Refusal::Size);
+        }
+        Ok(())
+    }
+}
+
+// Entries in turn: the first that is refused refuses the edit.
+fn check_all<E: Entry>(entries: &[E]) -> Result<(), Refusal>
+    ensures { result ≡ passed (join (map E.tests entries.now)) }
+{
+    for entry in entries {
+        entry.check()?;
+    }
+    Ok(())
+}
 
 // Whether an edit has more entries than it may have. Internal.
 pub fn has_too_many(e: Edit) -> bool
@@ -28,147 +98,32 @@ pub fn has_too_many(e: Edit) -> bool
 }
 
 // Whether an edit's log number is below the store's, not below next, or beyond its bound. Internal.
-pub fn has_bad_log(c: Counters, log: NewLog) -> bool
+pub fn has_bad_log(c: Counters, log: Option<FileNumber>) -> bool
     ensures { result ≡ model.bad_log (counters_of c) (log_of log) }
 {
-    match log {
-        NewLog::Keeps => false,
-        NewLog::Becomes(n) => {
-            let old = c.log;
-            let next = c.next;
-            if n.0 < old.0 {
-                return true;
-            }
-            if next.0 <= n.0 {
-                return true;
-            }
-            Counters::LARGEST < n.0
-        }
+    let Some(n) = log else {
+        return false;
+    };
+    if n.0 < c.log.0 {
+        return true;
     }
-}
-
-// The refusal of a pointer: its level, then its key.
-fn check_pointing(p: Pointing) -> Outcome
-    ensures { result ≡ passed (model.pointer_refusals full (map pointing_of (p ∷ []))) }
-{
-    if Level::COUNT <= p.level {
-        return Outcome::Refused(Refusal::LEVEL);
+    if c.next.0 <= n.0 {
+        return true;
     }
-    let k = p.key;
-    if !keys::is_good(k) {
-        return Outcome::Refused(Refusal::KEY);
-    }
-    Outcome::Done
-}
-
-// The refusal of an addition: its level, its keys, their order, its size.
-fn check_addition(a: Addition) -> Outcome
-    ensures { result ≡ passed (model.addition_refusals full (map addition_of (a ∷ []))) }
-{
-    if Level::COUNT <= a.level {
-        return Outcome::Refused(Refusal::LEVEL);
-    }
-    let low = a.smallest;
-    if !keys::is_good(low) {
-        return Outcome::Refused(Refusal::KEY);
-    }
-    let high = a.largest;
-    if !keys::is_good(high) {
-        return Outcome::Refused(Refusal::KEY);
-    }
-    if keys::is_before(high, low) {
-        return Outcome::Refused(Refusal::ENDS);
-    }
-    if FileRecord::LARGEST_SIZE < a.size {
-        return Outcome::Refused(Refusal::SIZE);
-    }
-    Outcome::Done
-}
-
-// The refusal of the first bad pointer. Requires: the count is within the room.
-fn check_pointings(pointings: [Pointing; Edit::POINTINGS], count: usize) -> Outcome
-    requires { count ≤ max_pointers }
-    ensures { result ≡ passed (model.pointer_refusals full (map pointing_of (take count pointings))) }
-{
-    let mut i: usize = 0;
-    while i < count {
-        let o = check_pointing(pointings[i]);
-        match o {
-            Outcome::Refused(n) => {
-                return Outcome::Refused(n);
-            }
-            Outcome::Done => {}
-        }
-        i += 1;
-    }
-    Outcome::Done
-}
-
-// The refusal of the first bad deletion: a level above 6. Requires: the count is within the room.
-fn check_deletions(deletions: [Deletion; Edit::DELETIONS], count: usize) -> Outcome
-    requires { count ≤ max_deletions }
-    ensures { result ≡ passed (model.deletion_refusals full (map deletion_of (take count deletions))) }
-{
-    let mut i: usize = 0;
-    while i < count {
-        if Level::COUNT <= deletions[i].level {
-            return Outcome::Refused(Refusal::LEVEL);
-        }
-        i += 1;
-    }
-    Outcome::Done
-}
-
-// The refusal of the first bad addition. Requires: the count is within the room.
-fn check_additions(additions: [Addition; Edit::ADDITIONS], count: usize) -> Outcome
-    requires { count ≤ max_additions }
-    ensures { result ≡ passed (model.addition_refusals full (map addition_of (take count additions))) }
-{
-    let mut i: usize = 0;
-    while i < count {
-        let o = check_addition(additions[i]);
-        match o {
-            Outcome::Refused(n) => {
-                return Outcome::Refused(n);
-            }
-            Outcome::Done => {}
-        }
-        i += 1;
-    }
-    Outcome::Done
+    Counters::LARGEST < n.0
 }
 
 // The refusal of an edit before anything is built: too many entries, the log number, the entries in turn. Internal.
-pub fn check(c: Counters, e: Edit) -> Outcome
+pub fn check(c: Counters, e: Edit) -> Result<(), Refusal>
     ensures { result ≡ passed (checks (counters_of c) (edit_of e)) }
 {
     if has_too_many(e) {
-        return Outcome::Refused(Refusal::ENTRIES);
+        return Err(Refusal::Entries);
     }
-    let log = e.log;
-    if has_bad_log(c, log) {
-        return Outcome::Refused(Refusal::COUNTER);
+    if has_bad_log(c, e.log) {
+        return Err(Refusal::Counter);
     }
-    let pointings = e.pointings;
-    let o = check_pointings(pointings, e.pointing_count);
-    match o {
-        Outcome::Refused(n) => Outcome::Refused(n),
-        Outcome::Done => check_files(e),
-    }
-}
-
-// The refusal of the first bad deletion, or else of the first bad addition. Requires: the edit has not too many entries.
-fn check_files(e: Edit) -> Outcome
-    requires { model.too_many full (edit_of e) ≡ false }
-    ensures { result ≡ passed (model.deletion_refusals full (edit_of e).deletions ++ model.addition_refusals full (edit_of e).additions) }
-{
-    let deletions = e.deletions;
-    let o = check_deletions(deletions, e.deletion_count);
-    match o {
-        Outcome::Refused(n) => Outcome::Refused(n),
-        Outcome::Done => {
-            let additions = e.additions;
-            check_additions(additions, e.addition_count)
-        }
-    }
+    check_all(&e.pointings[..e.pointing_count])?;
+    check_all(&e.deletions[..e.deletion_count])?;
+    check_all(&e.additions[..e.addition_count])
 }

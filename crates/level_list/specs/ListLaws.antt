@@ -12,7 +12,7 @@ use Rattle.std.proofs.lemmas.List.{length-map}
 use Rattle.std.proofs.Math.Seq.{slice}
 use Rattle.lemmas.specs.Lists.{all, chain, find, join, sum, is_empty}
 use Rattle.lemmas.specs.ListLaws.{and_left, and_right, and_true, both, all_in}
-use Rattle.lemmas.specs.Slices.{put, parts, sum_upto}
+use Rattle.lemmas.specs.Slices.{put, put_nil, parts, sum_upto}
 use Rattle.model.specs.Answer.{Answer, gives, refused, Refusal, ◌⇒◌, first_of}
 use Rattle.model.specs.File.{File, full, level, total, in_order, levelwise, good_file, good_files, level_count, max_files, max_word}
 use Rattle.model.specs.Range.{low_key, high_key}
@@ -255,6 +255,11 @@ files_count n l q w =
     length-map (take l.count l.files) file_of ∙ length-take-le l.count l.files (omega arith)
 
 -- ---- the files of a level of a store
+
+-- the empty list by value
+pub none_listed : record { files = vacant max_files; count = 0 } ≡ list_of []
+unfolding list_of full
+none_listed = sym (ap (λ (rs : List FileRecord). record { files = rs; count = 0 }) (put_nil (vacant max_files) 0))
 
 module _ (s : Store) (n : ℕ) where
   -- not well-formed: 14
