@@ -1,4 +1,4 @@
-// What a pick decides outside its searches: its refusals, the file that a size pick starts with, its plan on a lent store, its answer, and the pointer that it sets.
+// What a pick decides outside its searches: its refusals, the file that a size pick starts with, its plan on a lent store, and the pointer that it sets.
 #![tactic(auto)]
 
 ghost use Rattle.std.specs.Prelude.{◌≡◌, true, ◌<◌, ◌≤◌};
