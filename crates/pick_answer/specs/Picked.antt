@@ -1,14 +1,14 @@
 -- The picked answer of the model that a record stands for, and calls on it. Assumes nothing.
-use Rattle.std.specs.Prelude.{ℕ, zero, suc, ◌+◌, Bool, not, ◌&&◌, ◌||◌, cond, List, [], ◌∷◌, eqb, ltb, length, get_or}
+use Rattle.std.specs.Prelude.{ℕ, zero, suc, ◌+◌, Bool, not, ◌&&◌, ◌||◌, cond, List, [], ◌∷◌, eqb, ltb, length, get_or, Result}
 use Rattle.std.proofs.Math.Seq.{slice}
 use Rattle.lemmas.specs.Lists.{all, distinct}
-use Rattle.model.specs.Answer.{Answer, gives, refused}
+use Rattle.model.specs.Answer.{Answer, refused}
 use Rattle.model.specs.File.{File, full, numbers}
 use Rattle.model.specs.Pick as model
 use Rattle.model.specs.Pick.{bad_maximum, good_picked}
-use Rattle.answers.specs.Outcome.{outcome_of}
+use Rattle.answers.specs.Outcome.{result_of}
+use Rattle.answers.specs.declared.Refusal.{Refusal}
 use Rattle.levels.specs.Levels.{levels_of, laid_out, sound_levels}
-use Rattle.store.specs.declared.Store.{Store}
 use Rattle.store.specs.Store.{store_of}
 use Rattle.pick_answer.specs.declared.Cause.{Cause}
 use Rattle.pick_answer.specs.declared.Cause.TheVariants.{Size, Manual}
@@ -60,14 +60,13 @@ picked_record p = record {
   grand = length p.grand;
 }
 
--- the picked answer beside a refusal: no files
-unfoldable pub no_pick : Picked
-no_pick = picked_record record { level = 0; cause = model.manual; maximum = 0; first = []; second = []; grand = [] }
+-- the record of a pick: the picked answer, and the store of the new state
+unfoldable pub pick_record : model.Pick → Pick
+pick_record k = record { picked = picked_record k.picked; store = store_of k.after }
 
--- the answer of a pick: the picked answer and the store of the new state. After a refusal, no files and the store unchanged
-unfoldable pub pick_of : Store → Answer model.Pick → Pick
-pick_of s (gives k) = record { outcome = outcome_of (gives k); picked = picked_record k.picked; store = store_of k.after }
-pick_of s (refused n) = record { outcome = outcome_of {A = model.Pick} (refused n); picked = no_pick; store = s }
+-- the result of a pick
+unfoldable pub pick_of : Answer model.Pick → Result Pick Refusal
+pick_of a = result_of pick_record a
 
 -- a sound picked answer: no more files than the room, sound records, blank records in the empty places
 unfoldable pub sound_picked : Picked → Bool

@@ -5,10 +5,10 @@ ghost use Rattle.std.specs.Prelude.{◌≡◌, true, ◌+◌, ◌≤◌};
 ghost use Rattle.model.specs.File.{full, max_files};
 ghost use Rattle.model.specs.Pick.{is_manual, trivial};
 ghost use Rattle.model.specs.Calls as calls;
-ghost use Rattle.answers.specs.Outcome.{yes_no_of};
+ghost use Rattle.answers.specs.Outcome.{answer_of};
 ghost use Rattle.pick_answer.specs.Picked.{cause_of, picked_of, well_picked, on_picked, framed, as_levels, distinct_runs};
 
-use answers::{Outcome, Refusal, YesNo};
+use answers::Refusal;
 use records::{FileRecord, Level, Version};
 use store::Store;
 
@@ -43,10 +43,9 @@ impl Picked {
     pub const GRAND_TIMES: u64 = 10;
 }
 
-// The answer of a pick: the picked answer, and the store after the call.
+// What a pick gives: the picked answer, and the store after the call.
 #[derive(Clone, Copy)]
 pub struct Pick {
-    pub outcome: Outcome,
     pub picked: Picked,
     pub store: Store,
 }
@@ -105,16 +104,14 @@ pub fn is_well_formed(c: Picked) -> bool
     ensures { result ≡ well_picked c }
 {
     let counts = as_levels(c.level, c.first, c.second, c.grand);
-    let files = c.files;
-    let v = levels::survey(files, counts);
+    let v = levels::survey(c.files, counts);
     if !v.arranged {
         return false;
     }
     if !is_framed(c.level, c.maximum, c.first, c.grand) {
         return false;
     }
-    let column = v.numbers;
-    are_distinct(column, c.first, c.second, c.grand)
+    are_distinct(v.numbers, c.first, c.second, c.grand)
 }
 
 // Whether a pick is manual.
@@ -132,8 +129,7 @@ pub fn is_trivial(c: Picked) -> bool
     requires { well_picked c ≡ true }
     ensures { result ≡ trivial (picked_of c) }
 {
-    let cause = c.cause;
-    if is_manual(cause) {
+    if is_manual(c.cause) {
         return false;
     }
     if c.first != 1 {
@@ -143,20 +139,16 @@ pub fn is_trivial(c: Picked) -> bool
         return false;
     }
     let inputs = c.first + c.second;
-    let files = c.files;
-    let bytes = records::total_size(files, inputs, inputs + c.grand);
+    let bytes = records::total_size(c.files, inputs, inputs + c.grand);
     bytes < Picked::GRAND_TIMES * c.maximum
 }
 
 // Whether a pick is a trivial move: not manual, one first input, no second, grandparents' bytes below 10 M.
-pub fn is_trivial_move(c: Picked) -> YesNo
-    ensures { yes_no_of result ≡ on_picked c (calls.is_trivial_move full) }
+pub fn is_trivial_move(c: Picked) -> Result<bool, Refusal>
+    ensures { answer_of result ≡ on_picked c (calls.is_trivial_move full) }
 {
     if !is_well_formed(c) {
-        return YesNo::Refused(Refusal::FORM);
+        return Err(Refusal::Form);
     }
-    if is_trivial(c) {
-        return YesNo::Yes;
-    }
-    YesNo::No
+    Ok(is_trivial(c))
 }

@@ -1,8 +1,8 @@
 -- Facts about every accepted pick: the picked answer is well-formed and of the store's own files, no older key is left above it, and the store is well-formed.
 -- Assumes nothing.
-use Rattle.std.specs.Prelude.{ℕ, suc, ◌≡◌, Bool, cond}
+use Rattle.std.specs.Prelude.{ℕ, suc, ◌≡◌, Bool, cond, Ok, Err}
 use Rattle.std.proofs.Math.Path.{refl, subst}
-use Rattle.std.proofs.Common.{sym, ap, ◌∙◌, arith}
+use Rattle.std.proofs.Common.{sym, arith}
 use Rattle.std.proofs.Math.Bool.{true, false}
 use Rattle.lemmas.specs.Order.{clash}
 use Rattle.lemmas.specs.Lists.{is_empty}
@@ -17,16 +17,16 @@ use Rattle.model.specs.Pick.{good_picked, size_pick, manual_pick}
 use Rattle.model.proofs.PickLaws.{Begun, size_begun, range_begun, OfLevel, pick_keeps, pick_of_level, pick_nonempty, pick_second_same}
 use Rattle.model.proofs.PickedLaws.{size_good, range_good}
 use Rattle.model.specs.Range.{range_of}
-use Rattle.answers.specs.Outcome.{outcome_of}
-use Rattle.answers.specs.declared.Outcome.TheVariants.{Done, Refused}
+use Rattle.answers.specs.Outcome.{result_of}
+use Rattle.answers.specs.declared.Refusal.{Refusal}
 use Rattle.store.specs.declared.Store.{Store}
-use Rattle.store.specs.Store.{state_of, sound_store, well_store, on_store}
+use Rattle.store.specs.Store.{state_of, store_of, sound_store, well_store, on_store}
 use Rattle.store.specs.StoreLaws as store
 use Rattle.pick_answer.specs.declared.Picked.{Picked}
-use Rattle.pick_answer.specs.Picked.{picked_of, well_picked, pick_of}
+use Rattle.pick_answer.specs.declared.Pick.{Pick}
+use Rattle.pick_answer.specs.Picked.{picked_of, picked_record, well_picked, pick_record, pick_of}
 use Rattle.pick_answer.specs.PickedLaws as picked
-use Rattle.pick_plan.specs.declared.Taken.{Taken}
-use Rattle.pick_plan.specs.Plans.{taken_of}
+use Rattle.pick_plan.specs.Plans.{taken_record, taken_of, left_by}
 use Rattle.pick_lent.specs.Taking.{Leaves}
 
 -- an accepted pick on a store s: its picked answer c, and the store t that is left
@@ -75,32 +75,40 @@ given_on s call k e = go (sound_store s) e
 
 -- from the state to the store
 module _ (s : Store) (call : State → Answer model.Pick) (All_sound : (k : model.Pick) → call (state_of s) ≡ gives k → Sound (state_of s) k) where
-  -- the pick that the model's answer stands for, with its store
-  by_value : (pick_of s (on_store s call)).outcome ≡ Done → Accepted s (pick_of s (on_store s call)).picked (pick_of s (on_store s call)).store
-  unfolding pick_of outcome_of
-  by_value d = go (on_store s call) refl d
+  -- the picked answer and the store of a pick of the model
+  accepted : (k : model.Pick) → on_store s call ≡ gives k → Accepted s (picked_record k.picked) (store_of k.after)
+  accepted k e =
+      let g = All_sound k (given_on s call k e) in
+      let h = (picked.held k.picked g.good).0 in
+      let left = (formed_says full k.after).1 g.keeps in
+      record {
+        picked = picked.held_well k.picked g.good;
+        of_level_lem = rw h g.of_level_lem;
+        some_input = rw h g.some_input;
+        second_same = rw h g.second_same;
+        none_left = rw (h, (store.held k.after left).0) g.none_left;
+        store = store.held_well k.after left;
+      }
+
+  -- a call by value that gives this
+  by_value : (p : Pick) → pick_of (on_store s call) ≡ Ok p → Accepted s p.picked p.store
+  unfolding pick_of pick_record result_of
+  by_value p d = go (on_store s call) refl d
     where
-      go : (a : Answer model.Pick) → on_store s call ≡ a → (pick_of s a).outcome ≡ Done → Accepted s (pick_of s a).picked (pick_of s a).store
+      go : (a : Answer model.Pick) → on_store s call ≡ a → pick_of a ≡ Ok p → Accepted s p.picked p.store
       go (refused n) e z = let w : true ≡ false = cc in clash refl w
-      go (gives k) e z =
-          let g = All_sound k (given_on s call k e) in
-          let h = (picked.held k.picked g.good).0 in
-          let left = (formed_says full k.after).1 g.keeps in
-          record {
-            picked = picked.held_well k.picked g.good;
-            of_level_lem = rw h g.of_level_lem;
-            some_input = rw h g.some_input;
-            second_same = rw h g.second_same;
-            none_left = rw (h, (store.held k.after left).0) g.none_left;
-            store = store.held_well k.after left;
-          }
+      go (gives k) e z = let same : pick_record k ≡ p = cc in subst (λ (x : Pick). Accepted s x.picked x.store) same (accepted k e)
 
   -- a call on a lent store that leaves this
-  by_lending : (r : Taken) (t : Store) → Leaves s (on_store s call) r t → r.outcome ≡ Done → Accepted s r.picked t
-  unfolding taken_of
-  by_lending r t h d =
-      let a = by_value (sym (ap (λ (x : Taken). x.outcome) h.answer) ∙ d) in
-      subst (λ (u : Store). Accepted s r.picked u) (sym h.store) (subst (λ (x : Taken). Accepted s x.picked (pick_of s (on_store s call)).store) (sym h.answer) a)
+  by_lending : (c : Picked) (t : Store) → Leaves s (on_store s call) (Ok c) t → Accepted s c t
+  unfolding taken_of taken_record left_by result_of
+  by_lending c t h = go (on_store s call) refl h.answer h.store
+    where
+      go : (a : Answer model.Pick) → on_store s call ≡ a → Ok c ≡ taken_of a → t ≡ left_by s a → Accepted s c t
+      go (refused n) e z u = let w : true ≡ false = cc in clash refl w
+      go (gives k) e z u =
+          let same : picked_record k.picked ≡ c = cc in
+          subst (λ (x : Picked). Accepted s x t) same (subst (λ (x : Store). Accepted s (picked_record k.picked) x) (sym u) (accepted k e))
 
 -- a size pick
 module _ (s : Store) (m : ℕ) where
@@ -110,11 +118,11 @@ module _ (s : Store) (m : ℕ) where
   size_sound k e = sound (state_of s) m k (size_begun full (state_of s) m k e) (size_good full (state_of s) m k (omega arith) e)
 
   -- by value
-  pub size_accepted : let r = pick_of s (on_store s (λ t. size_pick full t m)) in r.outcome ≡ Done → Accepted s r.picked r.store
+  pub size_accepted : (p : Pick) → pick_of (on_store s (λ t. size_pick full t m)) ≡ Ok p → Accepted s p.picked p.store
   size_accepted = by_value s (λ t. size_pick full t m) size_sound
 
   -- on a lent store
-  pub size_lent_accepted : (r : Taken) (t : Store) → Leaves s (on_store s (λ t. size_pick full t m)) r t → r.outcome ≡ Done → Accepted s r.picked t
+  pub size_lent_accepted : (c : Picked) (t : Store) → Leaves s (on_store s (λ t. size_pick full t m)) (Ok c) t → Accepted s c t
   size_lent_accepted = by_lending s (λ t. size_pick full t m) size_sound
 
 -- a manual pick
@@ -124,15 +132,18 @@ module _ (s : Store) (m l : ℕ) (a b : Key) where
   range_sound k e = sound (state_of s) m k (range_begun full (state_of s) m l a b k e) (range_good full (state_of s) m l a b k e)
 
   -- by value
-  pub range_accepted : let r = pick_of s (on_store s (λ t. manual_pick full t m l a b)) in r.outcome ≡ Done → Accepted s r.picked r.store
+  pub range_accepted : (p : Pick) → pick_of (on_store s (λ t. manual_pick full t m l a b)) ≡ Ok p → Accepted s p.picked p.store
   range_accepted = by_value s (λ t. manual_pick full t m l a b) range_sound
 
   -- on a lent store
-  pub range_lent_accepted : (r : Taken) (t : Store) → Leaves s (on_store s (λ t. manual_pick full t m l a b)) r t → r.outcome ≡ Done → Accepted s r.picked t
+  pub range_lent_accepted : (c : Picked) (t : Store) → Leaves s (on_store s (λ t. manual_pick full t m l a b)) (Ok c) t → Accepted s c t
   range_lent_accepted = by_lending s (λ t. manual_pick full t m l a b) range_sound
 
 -- a refused pick leaves the store as it was
-pub refused_leaves : (s : Store) (a : Answer model.Pick) (n : ℕ) → (pick_of s a).outcome ≡ Refused n → (pick_of s a).store ≡ s
-unfolding pick_of outcome_of
-refused_leaves s (gives k) n e = let w : true ≡ false = cc in clash refl w
-refused_leaves s (refused m) n e = refl
+pub refused_leaves : (s : Store) (a : Answer model.Pick) (r : Refusal) (t : Store) → Leaves s a (Err r) t → t ≡ s
+unfolding taken_of left_by result_of
+refused_leaves s a r t h = go a h.answer h.store
+  where
+    go : (a : Answer model.Pick) → Err r ≡ taken_of a → t ≡ left_by s a → t ≡ s
+    go (gives k) e z = let w : true ≡ false = cc in clash refl w
+    go (refused n) e z = z

@@ -1,75 +1,66 @@
 // Picks on a store that the caller lends. The plan is followed and the level's pointer is set in place. A refused pick leaves the store as it was.
 #![tactic(auto)]
 
-ghost use Rattle.std.specs.Prelude.{◌<◌};
-ghost use Rattle.model.specs.File.{full, last_level};
+ghost use Rattle.model.specs.File.{full};
 ghost use Rattle.model.specs.Pick as model;
 ghost use Rattle.keys.specs.Key.{key_of};
 ghost use Rattle.store.specs.Store.{on_store};
-ghost use Rattle.pick_search.specs.Search.{Ready};
-ghost use Rattle.pick_plan.specs.Plans.{picks_from, answer_of, Feasible};
+ghost use Rattle.pick_plan.specs.Plans.{picks_from, Feasible};
 ghost use Rattle.pick_lent.specs.Taking.{Leaves};
 
+use answers::Refusal;
 use keys::Key;
 use pick_answer::Picked;
-use pick_plan::{PickPlan, Taken};
+use pick_plan::PickPlan;
 use store::Store;
 
 // A size pick at the level with the greatest score. Refused with 10 if no work is due.
-pub fn pick_compaction(s: &mut Store, maximum: u64) -> Taken
+pub fn pick_compaction(s: &mut Store, maximum: u64) -> Result<Picked, Refusal>
     ensures { Leaves s.old (on_store s.old (λ t. model.size_pick full t maximum)) result s.new }
 {
     // The level with the greatest score, and its first file after the pointer, or the first: 14, 9, 10.
-    let plan = pick_plan::size_plan(&*s, maximum);
-    take(s, plan)
+    let plan = pick_plan::size_plan(s, maximum)?;
+    follow(s, plan)
 }
 
 // A manual pick of the files of a level that overlap the range of two internal keys.
-pub fn compact_range(s: &mut Store, maximum: u64, level: usize, start: Key, stop: Key) -> Taken
+pub fn compact_range(
+    s: &mut Store,
+    maximum: u64,
+    level: usize,
+    start: Key,
+    stop: Key,
+) -> Result<Picked, Refusal>
     ensures { Leaves s.old (on_store s.old (λ t. model.manual_pick full t maximum level (key_of start) (key_of stop))) result s.new }
 {
     // The range and the limit of bytes: 14, 1, 2, 9, 11.
-    let plan = pick_plan::range_plan(&*s, maximum, level, start, stop);
-    take(s, plan)
+    let plan = pick_plan::range_plan(s, maximum, level, start, stop)?;
+    follow(s, plan)
 }
 
-// Follows a plan on a lent store. A refused plan changes nothing. Requires: if the plan is not refused, its searches can begin on the store.
-fn take(s: &mut Store, plan: PickPlan) -> Taken
+// Follows a plan on a lent store: makes its searches and sets the level's pointer. Requires: the plan's searches can begin on the store.
+fn follow(s: &mut Store, plan: PickPlan) -> Result<Picked, Refusal>
     requires { Feasible s.old plan }
-    ensures { Leaves s.old (answer_of s.old plan) result s.new }
-{
-    if pick_plan::is_accepted(plan) {
-        return follow(s, plan);
-    }
-    pick_plan::none_taken(plan)
-}
-
-// Follows an accepted plan on a lent store: makes its searches and sets the level's pointer. Requires: the store is well-formed, the plan's searches can begin on
-// it, and its level is below the last.
-fn follow(s: &mut Store, plan: PickPlan) -> Taken
-    requires { Ready s.old plan.asked plan.search × (plan.asked.level < last_level) }
     ensures { Leaves s.old (picks_from s.old plan.cause plan.asked plan.search) result s.new }
 {
-    store::shaped(&*s);
+    store::shaped(s);
     // First inputs, second inputs, growth, grandparents. Input lists are completed where files share an edge key.
-    let c = pick_search::choose(&*s, plan.asked, plan.search);
+    let c = pick_search::choose(s, plan.asked, plan.search);
     // 10 where nothing qualifies.
-    let e = pick_plan::ended(plan.cause, c);
-    // The lists of the answer, in that order.
-    let files = pick_search::laid(&*s, e.choice);
-    // The level's pointer becomes the completed first inputs' largest key.
-    s.pointers = pick_plan::pointed(s.pointers, e.choice);
-    let picked = Picked {
-        level: e.choice.level,
-        cause: e.cause,
-        maximum: e.choice.maximum,
-        files: files,
-        first: e.choice.first.count,
-        second: e.choice.second.count,
-        grand: e.choice.grand.count,
-    };
-    Taken {
-        picked: picked,
-        outcome: e.outcome,
+    if c.first.count == 0 {
+        return Err(Refusal::Nothing);
     }
+    // The lists of the answer, in that order.
+    let files = pick_search::laid(s, c);
+    // The level's pointer becomes the completed first inputs' largest key.
+    s.pointers = pick_plan::pointed(s.pointers, c);
+    Ok(Picked {
+        level: c.level,
+        cause: plan.cause,
+        maximum: c.maximum,
+        files,
+        first: c.first.count,
+        second: c.second.count,
+        grand: c.grand.count,
+    })
 }

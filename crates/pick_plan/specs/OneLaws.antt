@@ -1,5 +1,5 @@
 -- Laws of what a size pick starts with: the start file as files found, and the files that complete it. Assumes nothing.
-use Rattle.std.specs.Prelude.{ℕ, zero, suc, ◌+◌, ◌≤◌, ◌<◌, ◌≡◌, Bool, false, eqb, ltb}
+use Rattle.std.specs.Prelude.{None, Some, ℕ, zero, suc, ◌+◌, ◌≤◌, ◌<◌, ◌≡◌, Bool, false, eqb, ltb}
 use Rattle.std.proofs.Math.Path.{refl, sym, ap, subst}
 use Rattle.std.proofs.Common.{◌∙◌, lt-ltb, le-ltb, ltb-true, ltb-false, eqb-true, eq-eqb, ne_eqb}
 use Rattle.std.proofs.Math.Bool.{true, cond}
@@ -34,10 +34,9 @@ use Rattle.pick_search.specs.Choice.{asked_edges, edge_question}
 use Rattle.pick_search.specs.CompletedLaws.{not_completed, is_completed}
 use Rattle.pick_search.specs.Search.{Takable, Takes}
 use Rattle.bisect.specs.declared.Window.{Window}
-use Rattle.pick_plan.specs.declared.Start.TheVariants.{At, Nothing}
 use Rattle.pick_plan.specs.declared.Started.{Started}
 use Rattle.pick_plan.specs.ChoiceLaws.{completed_none, completed_some}
-use Rattle.pick_plan.specs.Starts.{begin_of, places_of, first_after, start_among, one_found, started_by, starting_with, Starts}
+use Rattle.pick_plan.specs.Starts.{begin_of, places_of, first_after, start_among, one_found, started_by, Starts}
 use Rattle.pick_plan.specs.StartLaws.{places, starts_at, places_due, start_places_room, start_places_held, start_some, start_nothing, start_place_within}
 
 -- ---- no file
@@ -130,20 +129,20 @@ module _ (s : Store) (q : StoreShape s) (h : well_store s ≡ true) (n : ℕ) (l
 
 -- ---- the place of the first file
 -- there is none: there are no files
-pub begins_nowhere : (a : FoundRun) → begin_of a ≡ Nothing → a.count ≡ 0
+pub begins_nowhere : (a : FoundRun) → begin_of a ≡ None → a.count ≡ 0
 unfolding begin_of
 begins_nowhere a = go (eqb a.count 0) refl
   where
-    go : (b : Bool) → eqb a.count 0 ≡ b → cond b Nothing (At a.from) ≡ Nothing → a.count ≡ 0
+    go : (b : Bool) → eqb a.count 0 ≡ b → cond b None (Some a.from) ≡ None → a.count ≡ 0
     go true t e = eqb-true a.count 0 t
     go false t e = let w : true ≡ false = cc in clash refl w
 
 -- there is one: there are files, and they begin there
-pub begins_at : (a : FoundRun) (i : ℕ) → begin_of a ≡ At i → (a.count ≡ 0 → ⊥) × (a.from ≡ i)
+pub begins_at : (a : FoundRun) (i : ℕ) → begin_of a ≡ Some i → (a.count ≡ 0 → ⊥) × (a.from ≡ i)
 unfolding begin_of
 begins_at a i = go (eqb a.count 0) refl
   where
-    go : (b : Bool) → eqb a.count 0 ≡ b → cond b Nothing (At a.from) ≡ At i → (a.count ≡ 0 → ⊥) × (a.from ≡ i)
+    go : (b : Bool) → eqb a.count 0 ≡ b → cond b None (Some a.from) ≡ Some i → (a.count ≡ 0 → ⊥) × (a.from ≡ i)
     go true t e = let w : true ≡ false = cc in clash refl w
     go false t e = let same : a.from ≡ i = cc in (eqb-false a.count 0 t, same)
 
@@ -153,12 +152,12 @@ abbrev start_found : Store → ℕ → Bool → Started
 start_found s n d = started_by (places s n d) (starts_at s n d) (get_or s.files (starts_at s n d) past)
 
 -- if there are places it is one file
-started_one : (s : Store) (n : ℕ) (d : Bool) → (places s n d).lo < (places s n d).hi → start_found s n d ≡ record { start = At (starts_at s n d); first = one_at s (starts_at s n d) }
+started_one : (s : Store) (n : ℕ) (d : Bool) → (places s n d).lo < (places s n d).hi → start_found s n d ≡ record { start = Some (starts_at s n d); first = one_at s (starts_at s n d) }
 unfolding started_by
 started_one s n d k = rw (lt-ltb (places s n d).lo (places s n d).hi k)
 
 -- if there are none it is nothing
-started_none : (s : Store) (n : ℕ) (d : Bool) → (places s n d).hi ≤ (places s n d).lo → start_found s n d ≡ record { start = Nothing; first = none_at (places s n d).hi }
+started_none : (s : Store) (n : ℕ) (d : Bool) → (places s n d).hi ≤ (places s n d).lo → start_found s n d ≡ record { start = None; first = none_at (places s n d).hi }
 unfolding started_by
 started_none s n d k = rw (le-ltb (places s n d).lo (places s n d).hi k)
 
@@ -186,8 +185,8 @@ module _ (s : Store) (q : StoreShape s) (h : well_store s ≡ true) (n : ℕ) (l
 
   module _ (r : FoundRun) where
     -- one file, completed
-    starts_one : (places s n d).lo < to → Takes s.files (edge_question n to) true (one_at s (starts_at s n d)) r → Starts s n d (starting_with (record { start = At (starts_at s n d); first = one_at s (starts_at s n d) }) r)
-    unfolding edge_question one_found starting_with begin_of Option-to_list
+    starts_one : (places s n d).lo < to → Takes s.files (edge_question n to) true (one_at s (starts_at s n d)) r → Starts s n d (record { start = Some (starts_at s n d); first = r })
+    unfolding edge_question one_found begin_of Option-to_list
     starts_one k g =
         let j = starts_at s n d in
         let fs = level (state_of s) n in
@@ -195,14 +194,14 @@ module _ (s : Store) (q : StoreShape s) (h : well_store s ≡ true) (n : ℕ) (l
         let taken : Takes s.files (edge_question n (end_at s n)) true (one_at s j) r = subst (λ (i : ℕ). Takes s.files (edge_question n i) true (one_at s j) r) (to_is begins.is_due_lem) g in
         let is = ap (λ (b : Bool). cond b (start_file (pointer (state_of s) n) fs) none) begins.is_due_lem ∙ begins.is in
         record {
-          start = ap At (sym g.starts) ∙ sym (rw (ne_eqb r.count 0 (one_some s q h n l j begins.least begins.below r taken)));
+          start = ap Some (sym g.starts) ∙ sym (rw (ne_eqb r.count 0 (one_some s q h n l j begins.least begins.below r taken)));
           known = one_known s q h n l j begins.least begins.below r taken;
           are = one_completed s q h n l j begins.least begins.below r taken ∙ ap (λ (o : Option File). completed_at n fs (Option-to_list o)) (sym is);
         }
 
     -- no files
-    starts_none : to ≤ (places s n d).lo → Takes s.files (edge_question n to) true (none_at to) r → Starts s n d (starting_with (record { start = Nothing; first = none_at to }) r)
-    unfolding edge_question none_at inputs_of starting_with begin_of Option-to_list
+    starts_none : to ≤ (places s n d).lo → Takes s.files (edge_question n to) true (none_at to) r → Starts s n d (record { start = None; first = r })
+    unfolding edge_question none_at inputs_of begin_of Option-to_list
     starts_none k g =
         let fs = level (state_of s) n in
         let starts = g.starts in
@@ -216,7 +215,7 @@ module _ (s : Store) (q : StoreShape s) (h : well_store s ≡ true) (n : ℕ) (l
 
     -- a start, completed, is what the pick starts with
     abbrev Completes : Started → Type 0
-    Completes z = Takes s.files (edge_question n to) true z.first r → Starts s n d (starting_with z r)
+    Completes z = Takes s.files (edge_question n to) true z.first r → Starts s n d (record { start = z.start; first = r })
 
     -- so it is with the file to start with
     found_completed : Completes (start_found s n d)
@@ -252,8 +251,8 @@ module _ (s : Store) (shape : StoreShape s) (h : well_store s ≡ true) (n : ℕ
     start_takable = rw (edge_is, file_is) (found_takable s shape h n l d)
 
     -- completed it is what the pick starts with
-    pub start_completed : (a : FoundRun) → Takes s.files q true one.first a → (r : Started) → r ≡ starting_with one a → Starts s n d r
-    start_completed a g r r_is =
+    pub start_completed : (a : FoundRun) → Takes s.files q true one.first a → Starts s n d (record { start = one.start; first = a })
+    start_completed a g =
         let asked = subst (λ (x : Question). Takes s.files x true one.first a) edge_is g in
         let starts = found_completed s shape h n l d a (subst (λ (z : Started). Takes s.files (edge_question n (places s n d).hi) true z.first a) file_is asked) in
-        subst (Starts s n d) (sym (r_is ∙ ap (λ (z : Started). starting_with z a) file_is)) starts
+        subst (λ (z : Started). Starts s n d (record { start = z.start; first = a })) (sym file_is) starts

@@ -1,5 +1,5 @@
 -- Laws of the two picks on a store: each refusal in turn, and the result of an accepted pick. Assumes nothing.
-use Rattle.std.specs.Prelude.{ℕ, zero, suc, ◌+◌, ◌≤◌, ◌<◌, ◌≡◌, Bool, ◌&&◌, cond, eqb, Float}
+use Rattle.std.specs.Prelude.{None, Some, ℕ, zero, suc, ◌+◌, ◌≤◌, ◌<◌, ◌≡◌, Bool, ◌&&◌, cond, eqb, Float}
 use Rattle.std.proofs.Math.Path.{refl, ap, subst}
 use Rattle.std.proofs.Common.{sym, ◌∙◌, arith}
 use Rattle.std.proofs.Math.Bool.{true, false}
@@ -32,7 +32,6 @@ use Rattle.pick_search.specs.InvariantLaws.{invariant_ready, invariant_one}
 use Rattle.pick_answer.specs.declared.Cause.TheVariants.{Size, Manual}
 use Rattle.pick_answer.specs.Picked.{cause_of}
 use Rattle.pick_range.specs.Ranges.{span_of, span_record}
-use Rattle.pick_plan.specs.declared.Start.TheVariants.{At, Nothing}
 use Rattle.pick_plan.specs.declared.Started.{Started}
 use Rattle.pick_plan.specs.Plans.{picks_from}
 use Rattle.pick_plan.specs.ChoiceLaws.{manual_limited, completed_none, completed_some}
@@ -94,7 +93,7 @@ module _ (s : Store) (n : ℕ) (h : well_store s ≡ true) (q : length s.files �
   starts_by d = completed_at n (level (state_of s) n) (Option-to_list (cond d (start_file (pointer (state_of s) n) (level (state_of s) n)) none))
 
   -- if it has no place, no work is due
-  pub nothing_due : z.start ≡ Nothing → due (score (state_of s) n) ≡ false
+  pub nothing_due : z.start ≡ None → due (score (state_of s) n) ≡ false
   nothing_due e = go (due (score (state_of s) n)) refl g.are
     where
       go : (d : Bool) → due (score (state_of s) n) ≡ d → inputs_of s z.first ≡ starts_by d → d ≡ false
@@ -104,7 +103,7 @@ module _ (s : Store) (n : ℕ) (h : well_store s ≡ true) (q : length s.files �
           clash (none_left (inputs_of s z.first) (start_count ∙ begins_nowhere z.first (sym g.start ∙ e))) (ap is_empty are ∙ some_file)
       go false t are = refl
 
-  module _ (i : ℕ) (e : z.start ≡ At i) where
+  module _ (i : ℕ) (e : z.start ≡ Some i) where
     -- if it has one, work is due
     pub found_due : due (score (state_of s) n) ≡ true
     unfolding Option-to_list

@@ -1,5 +1,6 @@
 -- The files that a size pick starts with, as places in a store's array, and the limit of a manual pick. Assumes nothing.
-use Rattle.std.specs.Prelude.{ℕ, zero, suc, ◌+◌, ◌-◌, min, ◌≡◌, Bool, cond, ◌&&◌, eqb, ltb, length, get_or, take}
+use Rattle.std.specs.Prelude as std
+use Rattle.std.specs.Prelude.{None, Some, ℕ, zero, suc, ◌+◌, ◌-◌, min, ◌≡◌, Bool, cond, ◌&&◌, eqb, ltb, length, get_or, take}
 use mathlib.Core.List.{List, [], ◌∷◌, Option-to_list}
 use Rattle.std.proofs.Math.Option.{Option, none, some, or_else}
 use Rattle.lemmas.specs.Lists.{find, sum, up_from}
@@ -14,8 +15,6 @@ use Rattle.store.specs.StoreLaws.{past as pastPointer}
 use Rattle.pick_found.specs.declared.FoundRun.{FoundRun}
 use Rattle.pick_found.specs.FoundRun.{file_at, start_at, end_at, none_at, inputs_of, Known}
 use Rattle.bisect.specs.declared.Window.{Window}
-use Rattle.pick_plan.specs.declared.Start.{Start}
-use Rattle.pick_plan.specs.declared.Start.TheVariants.{At, Nothing}
 use Rattle.pick_plan.specs.declared.Started.{Started}
 
 -- the byte limit of a manual pick's first inputs: none at level 0, M deeper
@@ -44,9 +43,9 @@ start_place (some k) from to files =
 unfoldable pub start_in : Store → ℕ → Option ℕ
 start_in s n = start_place (pointer_of (get_or s.pointers n pastPointer)) (start_at s n) (end_at s n) s.files
 
--- the place of the first of some files, or nothing if there are none
-unfoldable pub begin_of : FoundRun → Start
-begin_of a = cond (eqb a.count 0) Nothing (At a.from)
+-- the place of the first of some files, if there are any
+unfoldable pub begin_of : FoundRun → std.Option ℕ
+begin_of a = cond (eqb a.count 0) None (Some a.from)
 
 -- what a size pick of a level starts with, known by its places: the start file, completed above level 0, or no files if no work is due
 pub record Starts (s : Store) (n : ℕ) (due : Bool) (r : Started) : Type 0 where
@@ -82,8 +81,4 @@ one_found i f = record { from = i; count = 1; ends = record { low = f.smallest; 
 
 -- a start with the file at a place, or with nothing if there are no places
 unfoldable pub started_by : Window → ℕ → FileRecord → Started
-started_by p i f = cond (ltb p.lo p.hi) (record { start = At i; first = one_found i f }) (record { start = Nothing; first = none_at p.hi })
-
--- the same start with other files
-unfoldable pub starting_with : Started → FoundRun → Started
-starting_with z a = record { start = z.start; first = a }
+started_by p i f = cond (ltb p.lo p.hi) (record { start = Some i; first = one_found i f }) (record { start = None; first = none_at p.hi })

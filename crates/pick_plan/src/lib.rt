@@ -1,4 +1,4 @@
-// What a pick decides outside its searches: its refusals, the file that a size pick starts with, its plan on a lent store, its answer, and the pointer that it sets.
+// What a pick decides outside its searches: its refusals, the file that a size pick starts with, its plan on a lent store, and the pointer that it sets.
 #![tactic(auto)]
 
 ghost use Rattle.std.specs.Prelude.{◌≡◌, true, ◌<◌, ◌≤◌};
@@ -7,11 +7,11 @@ ghost use Rattle.model.specs.Key.{before};
 ghost use Rattle.model.specs.Pick as model;
 ghost use Rattle.model.specs.File.{full, level_count, max_files};
 ghost use Rattle.keys.specs.Key.{key_of};
-ghost use Rattle.pick_plan.specs.Starts.{one_found, limit_of, search_of, started_by, starting_with, places_of, nearer_by, start_among, first_after, Starts};
-ghost use Rattle.pick_plan.specs.Plans.{no_choice, no_plan, is_accepted, none_taken, SizePlanned, RangePlanned, end_of, pointers_by, Plans};
+ghost use Rattle.pick_plan.specs.Starts.{one_found, limit_of, search_of, started_by, places_of, nearer_by, start_among, first_after, Starts};
+ghost use Rattle.pick_plan.specs.Plans.{SizePlanned, RangePlanned, pointers_by, Plans};
 ghost use Rattle.store.specs.Store.{well_store, look_of, on_store, StoreShape};
 
-use answers::{Outcome, Refusal};
+use answers::Refusal;
 use bisect::Window;
 use keys::Key;
 use pick_answer::{Cause, Picked};
@@ -21,45 +21,23 @@ use pick_search::{Choice, Sweep};
 use records::{Ends, FileRecord, Level};
 use store::{Pointer, Store};
 
-// The place of the file to start with, or nothing.
-#[derive(Clone, Copy)]
-pub enum Start {
-    At(usize),
-    Nothing,
-}
-
 // What a size pick starts with.
 #[derive(Clone, Copy)]
 pub struct Started {
-    pub start: Start,
+    // The place of the file to start with, if any.
+    pub start: Option<usize>,
     // The file there, completed above level 0, or no files.
     pub first: FoundRun,
 }
 
-// The plan of a pick, or the number of its refusal.
+// The plan of a pick.
 #[derive(Clone, Copy)]
 pub struct PickPlan {
-    pub outcome: Outcome,
     pub cause: Cause,
     // The choice that the searches begin with.
     pub asked: Choice,
     // The number of the first search to make.
     pub search: usize,
-}
-
-// The result of a pick's searches: the choice and the cause, or the number of a refusal and no files.
-#[derive(Clone, Copy)]
-pub struct Ending {
-    pub outcome: Outcome,
-    pub cause: Cause,
-    pub choice: Choice,
-}
-
-// The answer of a pick without the store.
-#[derive(Clone, Copy)]
-pub struct Taken {
-    pub picked: Picked,
-    pub outcome: Outcome,
 }
 
 // Whether a maximum file size is not 1 to 2^32.
@@ -70,30 +48,6 @@ fn is_bad_maximum(maximum: u64) -> bool
         return true;
     }
     Picked::LARGEST_MAXIMUM < maximum
-}
-
-// The choice of a refused plan: no level, no range.
-fn nothing_asked() -> Choice
-    ensures { result ≡ no_choice }
-{
-    let key = keys::blank_key();
-    let span = pick_range::between(key, key);
-    pick_search::asking(0, 0, span, 0)
-}
-
-// A plan that is refused, with the number of the refusal.
-fn refused_plan(n: u8) -> PickPlan
-    ensures { result ≡ no_plan n }
-{
-    let outcome = Outcome::Refused(n);
-    let cause = Cause::Manual;
-    let asked = nothing_asked();
-    PickPlan {
-        outcome: outcome,
-        cause: cause,
-        asked: asked,
-        search: Choice::FIRST,
-    }
 }
 
 // The places of a level's files, or none if no work is due. Requires: the level is one of the seven, and the counts are together within the room.
@@ -157,16 +111,13 @@ fn start_place(p: Window, pointed: bool, i: usize) -> usize
 fn one_file(i: usize, f: FileRecord) -> FoundRun
     ensures { result ≡ one_found i f }
 {
-    let low = f.smallest;
-    let high = f.largest;
-    let ends = Ends {
-        low: low,
-        high: high,
-    };
     FoundRun {
         from: i,
         count: 1,
-        ends: ends,
+        ends: Ends {
+            low: f.smallest,
+            high: f.largest,
+        },
         bytes: f.size,
     }
 }
@@ -176,29 +127,14 @@ fn started_by(p: Window, i: usize, f: FileRecord) -> Started
     ensures { result ≡ started_by p i f }
 {
     if p.hi <= p.lo {
-        let start = Start::Nothing;
-        let none = pick_found::nothing_at(p.hi);
         return Started {
-            start: start,
-            first: none,
+            start: None,
+            first: pick_found::nothing_at(p.hi),
         };
     }
-    let start = Start::At(i);
-    let one = one_file(i, f);
     Started {
-        start: start,
-        first: one,
-    }
-}
-
-// The same start with other files.
-fn starting_with(z: Started, first: FoundRun) -> Started
-    ensures { result ≡ starting_with z first }
-{
-    let start = z.start;
-    Started {
-        start: start,
-        first: first,
+        start: Some(i),
+        first: one_file(i, f),
     }
 }
 
@@ -216,7 +152,7 @@ fn size_start(s: &Store, level: usize, due: bool) -> Started
     let one = started_by(p, j, f);
     let q = pick_search::edge_question(level, p.hi);
     let first = pick_search::taken(s, q, one.first, Sweep::BY_EDGE);
-    starting_with(one, first)
+    Started { first, ..one }
 }
 
 // The first search of a size pick. Above level 0 it has its first inputs and goes straight to second inputs. At level 0 it searches by the range of its file, and
@@ -231,35 +167,32 @@ fn search_of(level: usize) -> usize
 }
 
 // The plan of a size pick, by the level to compact and what it starts with.
-fn size_planned(scored: Scored, started: Started, maximum: u64) -> PickPlan
+fn size_planned(scored: Scored, started: Started, maximum: u64) -> Result<PickPlan, Refusal>
     ensures { SizePlanned scored started maximum result }
 {
     if is_bad_maximum(maximum) {
-        return refused_plan(Refusal::COUNTER);
+        return Err(Refusal::Counter);
     }
-    let found = started.start;
-    let Start::At(i) = found else {
-        return refused_plan(Refusal::NOTHING);
+    let Some(i) = started.start else {
+        return Err(Refusal::Nothing);
     };
     // Its first inputs, from that place on.
-    let mut first = started.first;
-    first.from = i;
+    let first = FoundRun {
+        from: i,
+        ..started.first
+    };
     let span = pick_found::range_of(first);
     let level = scored.level;
-    let mut asked = pick_search::asking(level, maximum, span, FoundRun::ALL);
-    asked.first = first;
-    let outcome = Outcome::Done;
-    let cause = Cause::Size(scored.score);
-    PickPlan {
-        outcome: outcome,
-        cause: cause,
-        asked: asked,
+    let asked = pick_search::asking(level, maximum, span, FoundRun::ALL);
+    Ok(PickPlan {
+        cause: Cause::Size(scored.score),
+        asked: Choice { first, ..asked },
         search: search_of(level),
-    }
+    })
 }
 
 // The plan of a size pick, by the bytes of the levels. Requires: the store has its shape and is well-formed, and the bytes are its levels'.
-fn size_asked(s: &Store, bytes: [u64; Level::COUNT], maximum: u64) -> PickPlan
+fn size_asked(s: &Store, bytes: [u64; Level::COUNT], maximum: u64) -> Result<PickPlan, Refusal>
     requires { StoreShape s.now × (well_store s.now ≡ true) × (bytes ≡ (look_of s.now).bytes) }
     ensures { Plans s.now (on_store s.now (λ t. model.size_pick full t maximum)) result }
 {
@@ -269,15 +202,15 @@ fn size_asked(s: &Store, bytes: [u64; Level::COUNT], maximum: u64) -> PickPlan
 }
 
 // The plan of a size pick on a lent store. Internal.
-pub fn size_plan(s: &Store, maximum: u64) -> PickPlan
+pub fn size_plan(s: &Store, maximum: u64) -> Result<PickPlan, Refusal>
     ensures { Plans s.now (on_store s.now (λ t. model.size_pick full t maximum)) result }
 {
     store::shaped(s);
     let seen = store::look(*s);
-    if seen.well {
-        return size_asked(s, seen.bytes, maximum);
+    if !seen.well {
+        return Err(Refusal::Form);
     }
-    refused_plan(Refusal::FORM)
+    size_asked(s, seen.bytes, maximum)
 }
 
 // The byte limit of a manual pick's first inputs: none at level 0, M deeper.
@@ -291,119 +224,63 @@ fn limit_of(level: usize, maximum: u64) -> u64
 }
 
 // The plan of a manual pick, given whether the store is well-formed.
-fn range_planned(well: bool, maximum: u64, level: usize, start: Key, stop: Key) -> PickPlan
+fn range_planned(
+    well: bool,
+    maximum: u64,
+    level: usize,
+    start: Key,
+    stop: Key,
+) -> Result<PickPlan, Refusal>
     ensures { RangePlanned well maximum level (key_of start) (key_of stop) result }
 {
     if !well {
-        return refused_plan(Refusal::FORM);
+        return Err(Refusal::Form);
     }
     if Level::COUNT <= level {
-        return refused_plan(Refusal::LEVEL);
+        return Err(Refusal::Level);
     }
     if !keys::is_good(start) {
-        return refused_plan(Refusal::KEY);
+        return Err(Refusal::Key);
     }
     if !keys::is_good(stop) {
-        return refused_plan(Refusal::KEY);
+        return Err(Refusal::Key);
     }
     if is_bad_maximum(maximum) {
-        return refused_plan(Refusal::COUNTER);
+        return Err(Refusal::Counter);
     }
     if Level::COUNT <= level + 1 {
-        return refused_plan(Refusal::LAST_LEVEL);
+        return Err(Refusal::LastLevel);
     }
     let span = pick_range::between(start, stop);
     let asked = pick_search::asking(level, maximum, span, limit_of(level, maximum));
-    let outcome = Outcome::Done;
-    let cause = Cause::Manual;
-    PickPlan {
-        outcome: outcome,
-        cause: cause,
-        asked: asked,
+    Ok(PickPlan {
+        cause: Cause::Manual,
+        asked,
         search: Choice::FIRST,
-    }
+    })
 }
 
 // The plan of a manual pick on a lent store. Internal.
-pub fn range_plan(s: &Store, maximum: u64, level: usize, start: Key, stop: Key) -> PickPlan
+pub fn range_plan(
+    s: &Store,
+    maximum: u64,
+    level: usize,
+    start: Key,
+    stop: Key,
+) -> Result<PickPlan, Refusal>
     ensures { Plans s.now (on_store s.now (λ t. model.manual_pick full t maximum level (key_of start) (key_of stop))) result }
 {
     let well = store::is_well_formed(*s);
     range_planned(well, maximum, level, start, stop)
 }
 
-// Whether a plan is not refused. Internal.
-pub fn is_accepted(p: PickPlan) -> bool
-    ensures { result ≡ is_accepted p.outcome }
-{
-    let outcome = p.outcome;
-    match outcome {
-        Outcome::Done => true,
-        Outcome::Refused(n) => false,
-    }
-}
-
-// The answer of a refused plan: no files, and its refusal. Internal.
-pub fn none_taken(p: PickPlan) -> Taken
-    ensures { result ≡ none_taken p.outcome }
-{
-    let outcome = p.outcome;
-    let cause = Cause::Manual;
-    let files = records::blanks();
-    let picked = Picked {
-        level: 0,
-        cause: cause,
-        maximum: 0,
-        files: files,
-        first: 0,
-        second: 0,
-        grand: 0,
-    };
-    Taken {
-        picked: picked,
-        outcome: outcome,
-    }
-}
-
-// The result of a pick's searches: 10 if there are no first inputs. Internal.
-pub fn ended(cause: Cause, c: Choice) -> Ending
-    ensures { result ≡ end_of cause c }
-{
-    if c.first.count == 0 {
-        let outcome = Outcome::Refused(Refusal::NOTHING);
-        let manual = Cause::Manual;
-        let none = nothing_asked();
-        return Ending {
-            outcome: outcome,
-            cause: manual,
-            choice: none,
-        };
-    }
-    let outcome = Outcome::Done;
-    Ending {
-        outcome: outcome,
-        cause: cause,
-        choice: c,
-    }
-}
-
-// The pointers after a pick: the level's becomes the first inputs' largest key, if there are any. Internal. Requires: the level is one of the seven.
+// The pointers after a pick: the level's becomes the first inputs' largest key. Internal. Requires: the level is one of the seven.
 pub fn pointed(pointers: [Pointer; Level::COUNT], c: Choice) -> [Pointer; Level::COUNT]
     requires { c.level < level_count }
     ensures { result ≡ pointers_by pointers c }
 {
-    if c.first.count == 0 {
-        return pointers;
-    }
-    let found = c.first;
-    let ends = found.ends;
-    let high = ends.high;
-    let key = keys::kept(high);
-    let level = c.level;
+    let key = keys::kept(c.first.ends.high);
     let mut after = pointers;
-    after[level] = Pointer {
-        set: true,
-        key: key,
-    };
+    after[c.level] = Pointer { set: true, key };
     after
 }

@@ -1,14 +1,13 @@
 -- The score of the level to compact as code keeps it, and the answer with it. Assumes nothing.
-use Rattle.std.specs.Prelude.{ℕ, zero, suc, ◌*◌, ◌^◌, ◌≤◌, false, List, [], ◌∷◌, pos, get_or, set}
-use Rattle.std.specs.Float.{fin}
-use Rattle.model.specs.Answer.{Answer, gives, refused}
-use Rattle.model.specs.File.{State, full, max_files, max_size, max_bytes}
+use Rattle.std.specs.Prelude.{ℕ, zero, suc, ◌≤◌, List, [], ◌∷◌, get_or, set, Result}
+use Rattle.model.specs.Answer.{Answer}
+use Rattle.model.specs.File.{State, full, max_files, max_bytes}
 use Rattle.model.specs.Score.{Score, byte_limit, score, level_to_compact, due, reported}
 use Rattle.model.specs.Score.{best_from}
 use Rattle.model.specs.Calls as calls
-use Rattle.answers.specs.Outcome.{outcome_of}
+use Rattle.answers.specs.Outcome.{result_of}
+use Rattle.answers.specs.declared.Refusal.{Refusal}
 use Rattle.pick_score.specs.declared.Scored.{Scored}
-use Rattle.pick_score.specs.declared.Work.{Work}
 
 -- the limit of a level that has a score: 4 files at level 0, bytes deeper
 unfoldable pub whole_of : ℕ → ℕ
@@ -48,14 +47,10 @@ scored_by amounts = let l = best_from (scores_by amounts) 0 1 5 in scored_as l (
 unfoldable pub scored_of : State → Scored
 scored_of t = scored_as (level_to_compact full t) (score t (level_to_compact full t))
 
--- the score beside a refusal: zeros, the score +0
-unfoldable pub unscored : Scored
-unscored = record { level = 0; amount = 0; limit = 0; score = fin false 0 (pos 0); due = false }
+-- the record of the model's answer
+unfoldable pub work_record : calls.Work → Scored
+work_record w = record { level = w.level; amount = w.score.part; limit = w.score.whole; score = w.reported; due = w.is_due }
 
--- the answer of `needs_compaction`
-unfoldable pub work_of : Answer calls.Work → Work
-work_of (gives w) = record {
-  outcome = outcome_of (gives w);
-  scored = record { level = w.level; amount = w.score.part; limit = w.score.whole; score = w.reported; due = w.is_due };
-}
-work_of (refused n) = record { outcome = outcome_of {A = calls.Work} (refused n); scored = unscored }
+-- the result of `needs_compaction`
+unfoldable pub work_of : Answer calls.Work → Result Scored Refusal
+work_of a = result_of work_record a

@@ -1,6 +1,6 @@
 -- Laws of scores: fractions over a common denominator, the level to compact by the amounts, and the answer's cases. Assumes nothing.
 use Prim.Native.Nat.{ℕ, zero, suc, ◌+◌, ◌*◌, ◌-◌, ◌^◌, ◌<◌, ◌≤◌}
-use Rattle.std.specs.Prelude.{◌≡◌, refl, Bool, true, false, cond, ltb, length, set}
+use Rattle.std.specs.Prelude.{◌≡◌, refl, Bool, true, false, cond, ltb, length, set, Ok, Err}
 use Rattle.std.proofs.Common.{sym, subst, ◌∙◌, add-one, lt-ltb, le-leb}
 use Rattle.std.proofs.Math.Path.{ap}
 use mathlib.Core.List.{List, [], map}
@@ -13,7 +13,7 @@ use Rattle.lemmas.specs.Fractions.{over_one}
 use Rattle.lemmas.specs.Lists.{sum}
 use Rattle.lemmas.specs.ListLaws.{join_in, join_length}
 use Rattle.model.specs.Answer.{refused, first_of, ◌⇒◌}
-use Rattle.model.specs.File.{State, full, level, total, max_size, well_formed, last_level, level_count, max_files, max_bytes}
+use Rattle.model.specs.File.{State, full, level, total, well_formed, last_level, level_count, max_files, max_bytes}
 use Rattle.model.proofs.Formed.{WF, good_file_says, formed_says}
 use Rattle.model.specs.Score.{Score, lower, byte_limit, score, level_to_compact, reported, best_from, Lossless}
 use Rattle.model.proofs.ScoreLaws.{best_level, level_is, total_most}
@@ -22,9 +22,9 @@ use Rattle.records.specs.Record.{limit_of}
 use Rattle.store.specs.Store.{state_of, well_store, look_of, on_store}
 use Rattle.store.specs.StoreLaws as store
 use Rattle.store.specs.declared.Store.{Store}
-use Rattle.answers.specs.Outcome.{outcome_of}
-use Rattle.answers.specs.declared.Outcome.TheVariants.{Done}
-use Rattle.pick_score.specs.Scores.{whole_of, score_at, scores_by, times, Amounts, scored_as, amounts_by, scored_by, scored_of, work_of}
+use Rattle.answers.specs.Outcome.{result_of}
+use Rattle.answers.specs.declared.Refusal.TheVariants.{Form}
+use Rattle.pick_score.specs.Scores.{whole_of, score_at, scores_by, times, Amounts, scored_as, amounts_by, scored_by, scored_of, work_record, work_of}
 
 -- ---- fractions over a common denominator
 
@@ -209,12 +209,13 @@ unfolding calls.needs_compaction first_of ◌⇒◌
 state_ill t e = rw e
 
 -- a store that is not well-formed: 14
-pub work_ill : (s : Store) → well_store s ≡ false → work_of (refused 14) ≡ work_of (on_store s (calls.needs_compaction full))
+pub work_ill : (s : Store) → well_store s ≡ false → Err Form ≡ work_of (on_store s (calls.needs_compaction full))
+unfolding work_of result_of
 work_ill s h = ap work_of (sym (store.on_store_ill s (calls.needs_compaction full) (state_ill (state_of s)) h))
 
 -- a well-formed store: the level to compact and its score
-pub work_done : (s : Store) → well_store s ≡ true → record { outcome = Done; scored = scored_of (state_of s) } ≡ work_of (on_store s (calls.needs_compaction full))
-unfolding work_of outcome_of scored_of scored_as calls.needs_compaction first_of ◌⇒◌
+pub work_done : (s : Store) → well_store s ≡ true → Ok (scored_of (state_of s)) ≡ work_of (on_store s (calls.needs_compaction full))
+unfolding work_of work_record result_of scored_of scored_as calls.needs_compaction first_of ◌⇒◌
 work_done s h = rw (store.on_store_well s (calls.needs_compaction full) h, ((store.well_says s).0 h).formed)
 
 -- ---- examples

@@ -6,9 +6,9 @@ ghost use Rattle.model.specs.File.{full, last_level};
 ghost use Rattle.model.specs.Score.{best_from, Lossless};
 ghost use Rattle.model.specs.Calls as calls;
 ghost use Rattle.store.specs.Store.{on_store};
-ghost use Rattle.pick_score.specs.Scores.{whole_of, score_at, scores_by, scored_as, scored_by, amounts_by, unscored, work_of, Amounts};
+ghost use Rattle.pick_score.specs.Scores.{whole_of, score_at, scores_by, scored_as, scored_by, amounts_by, work_of, Amounts};
 
-use answers::{Outcome, Refusal};
+use answers::Refusal;
 use records::Level;
 use store::Store;
 
@@ -24,13 +24,6 @@ pub struct Scored {
     pub score: f64,
     // Whether work is due.
     pub due: bool,
-}
-
-// The answer of `needs_compaction`.
-#[derive(Clone, Copy)]
-pub struct Work {
-    pub outcome: Outcome,
-    pub scored: Scored,
 }
 
 // The number of level 0 files at which work is due.
@@ -75,9 +68,9 @@ fn scored_at(level: usize, amount: u64) -> Scored
     let part = amount as f64;
     let whole = limit as f64;
     Scored {
-        level: level,
-        amount: amount,
-        limit: limit,
+        level,
+        amount,
+        limit,
         score: part / whole,
         due: limit <= amount,
     }
@@ -94,38 +87,13 @@ pub fn finalize(bytes: [u64; Level::COUNT], counts: [usize; Level::COUNT]) -> Sc
     scored_at(level, amounts[level])
 }
 
-// The score beside a refusal: zeros.
-fn no_score() -> Scored
-    ensures { result ≡ unscored }
-{
-    Scored {
-        level: 0,
-        amount: 0,
-        limit: 0,
-        score: 0.0,
-        due: false,
-    }
-}
-
 // The level to compact, its score and whether work is due.
-pub fn needs_compaction(s: Store) -> Work
+pub fn needs_compaction(s: Store) -> Result<Scored, Refusal>
     ensures { result ≡ work_of (on_store s (calls.needs_compaction full)) }
 {
     let look = store::look(s);
     if !look.well {
-        let outcome = Outcome::Refused(Refusal::FORM);
-        let scored = no_score();
-        return Work {
-            outcome: outcome,
-            scored: scored,
-        };
+        return Err(Refusal::Form);
     }
-    let outcome = Outcome::Done;
-    let bytes = look.bytes;
-    let counts = s.counts;
-    let scored = finalize(bytes, counts);
-    Work {
-        outcome: outcome,
-        scored: scored,
-    }
+    Ok(finalize(look.bytes, s.counts))
 }

@@ -1,13 +1,10 @@
 -- `size_plan` meets its contract: one look tells whether the store is well-formed, and its bytes. Assumes nothing.
-use Rattle.std.proofs.Common.{◌≡◌, ap, sym, subst, ◌∙◌}
+use Rattle.std.proofs.Common.{◌≡◌, ap, sym, ◌∙◌}
+use Rattle.std.proofs.lemmas.Bool.{not-true, not-false}
 use Rattle.store.specs.declared.Looked.{Looked}
 use Rattle.store.specs.declared.Store.{Store}
-use Rattle.model.specs.File.{full}
-use Rattle.model.specs.Pick as model
-use Rattle.store.specs.Store.{look_of, on_store, well_store}
-use Rattle.pick_plan.specs.Plans.{Plans}
+use Rattle.store.specs.Store.{look_of, well_store}
 use Rattle.pick_plan.specs.PlansLaws.{ill_planned}
-use Rattle.pick_plan.specs.declared.PickPlan.{PickPlan}
 use Rattle.pick_plan.proofs.size_plan.Goals as goal
 
 -- what a look tells of whether the store is well-formed, and of the bytes
@@ -19,13 +16,13 @@ module _ (h : Store) (w : Looked) (e : w ≡ look_of h) where
   tells_bytes : w.bytes ≡ (look_of h).bytes
   tells_bytes = ap (λ (x : Looked). x.bytes) e
 
+pub returns-then-not-seen : goal.returns-then-not-seen
+returns-then-not-seen c =
+    ill_planned c.args.s.now c.args.maximum (tells_well c.args.s.now c.look-seen.result c.look-seen.ensures ∙ not-true _ c.if-not-seen.true)
+
 pub size_asked-requires : goal.size_asked-requires
 size_asked-requires c = (
   c.shaped.ensures,
-  tells_well c.args.s.now c.look-seen.result c.look-seen.ensures ∙ c.if-seen.true,
+  tells_well c.args.s.now c.look-seen.result c.look-seen.ensures ∙ not-false _ c.if-not-seen.false,
   tells_bytes c.args.s.now c.look-seen.result c.look-seen.ensures,
 )
-
-pub returns : goal.returns
-returns c =
-    subst (λ (r : PickPlan). Plans c.args.s.now (on_store c.args.s.now (λ t. model.size_pick full t c.args.maximum)) r) (sym c.refused_plan.ensures) (ill_planned c.args.s.now c.args.maximum (tells_well c.args.s.now c.look-seen.result c.look-seen.ensures ∙ c.if-seen.false))

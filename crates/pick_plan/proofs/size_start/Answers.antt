@@ -26,4 +26,4 @@ taken-first-requires c = (
 pub returns : goal.returns
 returns c =
     start_completed c.args.s.now c.requires.0 c.requires.1 c.args.level c.requires.2 c.args.due c.start_places-p.result c.start_places-p.ensures c.first_after-i.result c.first_after-i.ensures c.start_place-j.result c.start_place-j.ensures
-    c.file_at-f.result c.file_at-f.ensures c.started_by-one.result c.started_by-one.ensures c.edge_question-q.result c.edge_question-q.ensures c.taken-first.result c.taken-first.ensures c.starting_with.result c.starting_with.ensures
+    c.file_at-f.result c.file_at-f.ensures c.started_by-one.result c.started_by-one.ensures c.edge_question-q.result c.edge_question-q.ensures c.taken-first.result c.taken-first.ensures

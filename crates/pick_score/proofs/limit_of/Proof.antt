@@ -1,5 +1,4 @@
 -- `pick_score::limit_of` meets its contract. Assumes nothing.
-use Prim.Native.Nat.{◌-◌}
 use mathlib.Core.Path.{◌∙◌}
 use borrow.Author.Rules.{rules}
 use Rattle.pick_score.specs.ScoresLaws.{whole_first, whole_deeper}

@@ -1,15 +1,11 @@
 -- `pick_plan::size_planned` meets its contract. Assumes nothing.
-use Prim.Native.Nat.{ℕ, ◌<◌}
-use mathlib.Core.Path.{◌≡◌, sym, ap, subst, ◌∙◌}
-use mathlib.Core.Bool.{Bool, true, false}
-use native.Mathlib.Omega.{arith}
-use borrow.Author.Rules.{rules}
+use Rattle.std.proofs.Common.{ℕ, ◌<◌, ◌≡◌, sym, ap, subst, ◌∙◌, Bool, true, false, arith, None, Some, Ok}
 use Rattle.model.specs.Answer.{Answer}
 use Rattle.model.specs.File.{full, last_level, max_word}
 use Rattle.model.proofs.Formed.{formed_says}
 use Rattle.model.specs.Pick as model
 use Rattle.model.specs.Score.{score, level_to_compact, due, reported}
-use Rattle.answers.specs.declared.Outcome.TheVariants.{Done}
+use Rattle.answers.specs.declared.Refusal.TheVariants.{Counter, Nothing}
 use Rattle.store.specs.declared.Store.{Store}
 use Rattle.store.specs.Store.{state_of, well_store, on_store, StoreShape}
 use Rattle.store.specs.StoreLaws as store
@@ -21,15 +17,13 @@ use Rattle.pick_found.specs.declared.FoundRun.{FoundRun}
 use Rattle.pick_answer.specs.declared.Cause.TheVariants.{Size}
 use Rattle.pick_search.specs.declared.Choice.{Choice}
 use Rattle.pick_search.specs.Choice.{begun, filled_with}
-use Rattle.pick_plan.specs.declared.Start.TheVariants.{At, Nothing}
 use Rattle.pick_plan.specs.declared.Started.{Started}
 use Rattle.pick_plan.specs.Starts.{search_of, Starts}
 use Rattle.pick_plan.specs.Plans.{Plans}
 use Rattle.pick_plan.specs.PlansLaws.{plans_none, plans_done}
 use Rattle.pick_plan.specs.ChoiceLaws.{search_few, maximum_most}
 use Rattle.pick_plan.specs.PickCallsLaws.{one_asked, size_stands, size_firsts, nothing_due, found_due, found_at, size_bad, size_idle, size_picks}
-use Rattle.pick_plan.proofs.size_planned.Statement.{statement}
-use Rattle.pick_plan.proofs.size_planned.Tie as tie
+use Rattle.pick_plan.proofs.size_planned.Goals as goal
 
 -- the model's answer
 abbrev answer : Store → ℕ → Answer model.Pick
@@ -61,12 +55,12 @@ module _ (s : Store) (q : StoreShape s) (h : well_store s ≡ true) (c : Scored)
     starts = subst (λ (d : Bool). Starts s c.level d z) due_is f
 
     -- it has no place: no work is due
-    idle : z.start ≡ Nothing → due (score (state_of s) c.level) ≡ false
+    idle : z.start ≡ None → due (score (state_of s) c.level) ≡ false
     idle = nothing_due s c.level h q.files z starts
 
     -- it is at i: the pick from its files on is the model's
-    size_plans : (i : ℕ) → z.start ≡ At i → (m : ℕ) → model.bad_maximum m ≡ false → (asked : Choice) → asked ≡ one_asked c.level m z.first → (k : ℕ) → k ≡ search_of c.level
-        → Plans s (answer s m) (record { outcome = Done; cause = Size c.score; asked = asked; search = k })
+    size_plans : (i : ℕ) → z.start ≡ Some i → (m : ℕ) → model.bad_maximum m ≡ false → (asked : Choice) → asked ≡ one_asked c.level m z.first → (k : ℕ) → k ≡ search_of c.level
+        → Plans s (answer s m) (Ok (record { cause = Size c.score; asked = asked; search = k }))
     unfolding one_asked filled_with begun
     size_plans i found m good asked Asked-is k search_is =
         let n = c.level in
@@ -86,66 +80,27 @@ module _ (s : Store) (q : StoreShape s) (h : well_store s ≡ true) (c : Scored)
         }
         (omega arith)
 
-is-bad-maximum-requires : tie.Need-is_bad_maximum-requires
-is-bad-maximum-requires c κs = search rules
+pub returns-then-is_bad_maximum : goal.returns-then-is_bad_maximum
+returns-then-is_bad_maximum c s q h e f =
+    let m = c.args.maximum in
+    plans_none s (answer s m) Counter (size_bad s m h (sym c.is_bad_maximum.ensures ∙ c.if-is_bad_maximum.true))
 
-refused-plan-requires : tie.Need-refused_plan-requires
-refused-plan-requires c κs = search rules
+pub returns-in_default : goal.returns-in_default
+returns-in_default c s q h e f =
+    let m = c.args.maximum in
+    let x = c.args.scored in
+    let good = sym c.is_bad_maximum.ensures ∙ c.if-is_bad_maximum.false in
+    plans_none s (answer s m) Nothing (size_idle s m h good x.level (level_is s q h x e) (idle s q h x e c.args.started f c.in_default.is))
 
-returns : tie.Need-returns-then-is_bad_maximum
-returns c s q h e f =
-    let t = c in
-    let b = t in
-    let m = b.args.maximum in
-    plans_none s (answer s m) 9 c.refused_plan.result (size_bad s m h (sym b.is_bad_maximum.ensures ∙ t.if-is_bad_maximum.true)) c.refused_plan.ensures
-
--- past the test the maximum file size is in its range
-good : (c : tie.Else-is_bad_maximum) → model.bad_maximum c.args.maximum ≡ false
-good c = sym c.is_bad_maximum.ensures ∙ c.if-is_bad_maximum.false
-
-enum-known-found : tie.Need-enum_known-found
-enum-known-found c = search rules
-
-enum_told : tie.Need-enum_told-1
-enum_told c = search rules
-
-refused-plan-requires-2 : tie.Need-refused_plan-requires-in_default
-refused-plan-requires-2 c κs = search rules
-
-returns_2 : tie.Need-returns-in_default
-returns_2 c s q h e f =
-    let k = c in
-    let l = k.before.before in
-    let a = l.args in
-    let x = a.scored in
-    plans_none s (answer s a.maximum) 10 c.refused_plan-in_default.result
-    (size_idle s a.maximum h (good l) x.level (level_is s q h x e) (idle s q h x e a.started f k.in_default.is)) c.refused_plan-in_default.ensures
-
-range-of-requires : tie.Need-range_of-span-requires
-range-of-requires c κs = search rules
-
-asking-requires : tie.Need-asking-asked-requires
-asking-requires c κs = search rules
-
-search-of-requires : tie.Need-search_of-requires
-search-of-requires c κs = search rules
-
-returns_3 : tie.Need-returns
+pub returns : goal.returns
 unfolding filled_with one_asked
-returns_3 c s q h e f =
-    let k = c in
-    let r = k in
-    let g = r in
-    let l = g.before.before.before.before.before in
-    let a = l.args in
-    let x = a.scored in
-    let z = a.started in
-    let i = g.in-At.i in
+returns c s q h e f =
+    let m = c.args.maximum in
+    let x = c.args.scored in
+    let z = c.args.started in
+    let good = sym c.is_bad_maximum.ensures ∙ c.if-is_bad_maximum.false in
+    let i = c.in-Some.i in
     let first : FoundRun = record { from = i; count = z.first.count; ends = z.first.ends; bytes = z.first.bytes } in
-    let same = found_at s x.level h q.files z (starts s q h x e z f) i g.in-At.is in
-    let asked = ap (λ (y : Choice). filled_with y 0 first) (k.asking-asked.ensures ∙ ap (λ (y : Span). begun x.level a.maximum y max_word) r.range_of-span.ensures)
-    ∙ ap (one_asked x.level a.maximum) same in
-    size_plans s q h x e z f i g.in-At.is a.maximum (good l) (filled_with k.asking-asked.result 0 first) asked c.search_of.result c.search_of.ensures
-
-pub size_planned_spec : {M : Type 1} → statement M
-size_planned_spec = tie.close (tie.spec is-bad-maximum-requires refused-plan-requires returns enum-known-found enum_told refused-plan-requires-2 returns_2 range-of-requires asking-requires search-of-requires returns_3)
+    let same = found_at s x.level h q.files z (starts s q h x e z f) i c.in-Some.is in
+    let asked = ap (λ (y : Choice). filled_with y 0 first) (c.asking-asked.ensures ∙ ap (λ (y : Span). begun x.level m y max_word) c.range_of-span.ensures) ∙ ap (one_asked x.level m) same in
+    size_plans s q h x e z f i c.in-Some.is m good (filled_with c.asking-asked.result 0 first) asked c.search_of.result c.search_of.ensures
