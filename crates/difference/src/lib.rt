@@ -5,13 +5,12 @@ ghost use Rattle.std.specs.Prelude.{◌≡◌, length};
 ghost use Rattle.model.specs.Answer.{lent};
 ghost use Rattle.model.specs.File.{full};
 ghost use Rattle.model.specs.DifferenceBytes as model;
-ghost use Rattle.snapshot_write.specs.Writing.{written_of};
+ghost use Rattle.answers.specs.Outcome.{answer_of, filling};
 
 use answers::Refusal;
 use keys::Key;
 use records::{Level, Version};
 use snapshot_parts::Snapshot;
-use snapshot_write::Written;
 
 // The lengths of a list's parts.
 #[derive(Clone, Copy)]
@@ -33,22 +32,22 @@ fn room() -> [u8; List::LONGEST] {
     [0u8; List::LONGEST]
 }
 
-// Writes the list of what differs between two snapshots at the start of the lent output: entries with the right's contents, which make the right of the left. Refusals:
-// 14 for the left, 14 for the right, 13. Past the list the output stays, and a refusal writes nothing.
-pub fn differing(left: &[u8], right: &[u8], out: &mut [u8]) -> Written
-    ensures { (result ≡ written_of (model.differing full left.now right.now (length out.old))) × (out.new ≡ lent (model.differing full left.now right.now (length out.old)) out.old) }
+// Writes the list of what differs between two snapshots at the start of the lent output, and returns its length: entries with the right's contents, which make the right
+// of the left. Refusals: 14 for the left, 14 for the right, 13. Past the list the output stays, and a refusal writes nothing.
+pub fn differing(left: &[u8], right: &[u8], out: &mut [u8]) -> Result<usize, Refusal>
+    ensures { (answer_of result ≡ filling (model.differing full left.now right.now (length out.old))) × (out.new ≡ lent (model.differing full left.now right.now (length out.old)) out.old) }
 {
     if !snapshot_read::is_snapshot(left) {
-        return Written::Refused(Refusal::FORM);
+        return Err(Refusal::Form);
     }
     if !snapshot_read::is_snapshot(right) {
-        return Written::Refused(Refusal::FORM);
+        return Err(Refusal::Form);
     }
     let mut list = room();
     let n = difference_list::lay_list(left, right, &mut list);
     if out.len() < n {
-        return Written::Refused(Refusal::OUTPUT);
+        return Err(Refusal::Output);
     }
     snapshot_parts::put_bytes(out, 0, &list[0..n]);
-    Written::Bytes(n)
+    Ok(n)
 }

@@ -8,7 +8,7 @@ use Rattle.lemmas.specs.Slices.{put, put_front}
 use Rattle.model.specs.Answer.{gives, refused}
 use Rattle.model.specs.File.{State, full}
 use Rattle.model.specs.Calls.{read, or_bad}
-use Rattle.model.specs.Snapshot.{encode, decode, longest_snapshot}
+use Rattle.model.specs.Snapshot.{encode, longest_snapshot}
 use Rattle.model.proofs.SnapshotLaws.{full_fits}
 use Rattle.model.specs.Difference.{Difference}
 use Rattle.model.specs.DifferenceBytes.{write_differences, decode_list, on_given, fitting, patching}

@@ -1,5 +1,5 @@
 -- Laws of reading: if the store parsed from bytes writes them, it is the store that they hold. If not, they are no snapshot. Assumes nothing.
-use Rattle.std.specs.Prelude.{ℕ, ◌+◌, ◌-◌, ◌≤◌, ◌<◌, Bool, List, ◌++◌, length, take}
+use Rattle.std.specs.Prelude.{ℕ, ◌-◌, ◌≤◌, Bool, List, ◌++◌, length, take, Ok, Err}
 use Rattle.std.proofs.Math.Path.{◌≡◌, refl, sym, ap}
 use Rattle.std.proofs.Common.{◌∙◌, arith}
 use Rattle.std.proofs.Math.Bool.{true, false}
@@ -8,23 +8,22 @@ use Rattle.std.proofs.Math.ListN.{drop}
 use Rattle.std.proofs.Math.Seq.{take_at}
 use Rattle.lemmas.specs.Order.{clash}
 use Rattle.lemmas.specs.ListLaws.{and_left, and_right, both}
-use Rattle.model.specs.Answer.{Answer, gives, refused, lent}
+use Rattle.model.specs.Answer.{Answer, gives, on_answer, lent}
 use Rattle.model.specs.File.{State, full}
 use Rattle.model.specs.Calls as calls
 use Rattle.model.proofs.Formed.{WF, formed_says}
 use Rattle.model.specs.Snapshot.{encode, same_bytes, decode, longest_snapshot}
 use Rattle.model.proofs.SnapshotLaws.{full_fits}
 use Rattle.model.proofs.Reading.{as_read, same_eq, eq_same, decode_sound, decode_encode}
-use Rattle.answers.specs.declared.Outcome.TheVariants.{Done}
-use Rattle.answers.specs.Outcome.{outcome_of}
+use Rattle.answers.specs.declared.Refusal.{Refusal}
+use Rattle.answers.specs.declared.Refusal.TheVariants.{Form}
+use Rattle.answers.specs.Outcome.{answer_of, filling, result_of}
 use Rattle.store.specs.declared.Store.{Store}
-use Rattle.store.specs.declared.Stored.{Stored}
-use Rattle.store.specs.Store.{state_of, store_of, well_store, leaves, stored, refused_by}
+use Rattle.store.specs.Store.{state_of, store_of, well_store, stored}
 use Rattle.store.specs.StoreLaws.{held, held_well, well_says}
 use Rattle.snapshot_parse.specs.Parsing.{state_in}
 use Rattle.snapshot_parse.specs.BackLaws.{state_back}
-use Rattle.snapshot_write.specs.declared.Written.TheVariants.{Bytes, Refused}
-use Rattle.snapshot_write.specs.Writing.{written_of, snapshot_of}
+use Rattle.snapshot_write.specs.Writing.{snapshot_of}
 use Rattle.snapshot_write.specs.WritingLaws.{written_ill, written_well, snapshot_most}
 use Rattle.snapshot_read.specs.Reading.{writes_these, is_some, is_snapshot}
 
@@ -49,29 +48,29 @@ module _ (s : Store) (room : ℕ) (fits : room ≡ longest_snapshot) where
   has_one h = written_well s room h (omega (arith, snapshot_most s h))
 
   -- it is refused only if the store is not well-formed
-  pub refused_ill : (n : ℕ) → written_of (snapshot_of s room) ≡ Refused n → well_store s ≡ false
-  unfolding written_of
-  refused_ill n e = go (well_store s) refl
+  pub refused_ill : (r : Refusal) → answer_of (Err r) ≡ filling (snapshot_of s room) → well_store s ≡ false
+  unfolding answer_of filling on_answer
+  refused_ill r e = go (well_store s) refl
     where
       go : (t : Bool) → well_store s ≡ t → well_store s ≡ false
       go false h = h
-      go true h = let z : ◌≡◌ {A = ℕ} 0 1 = cc (ap written_of (has_one h)) in absurd (omega arith)
+      go true h = let z : true ≡ false = cc (ap filling (has_one h)) in clash refl z
 
   -- it is written, with n bytes
-  module _ (n : ℕ) (e : written_of (snapshot_of s room) ≡ Bytes n) where
+  module _ (n : ℕ) (e : answer_of (Ok n) ≡ filling (snapshot_of s room)) where
     -- the store is well-formed
     pub bytes_well : well_store s ≡ true
-    unfolding written_of
+    unfolding answer_of filling on_answer
     bytes_well = go (well_store s) refl
       where
         go : (t : Bool) → well_store s ≡ t → well_store s ≡ true
         go true h = h
-        go false h = let z : ◌≡◌ {A = ℕ} 0 1 = cc (ap written_of (written_ill s room h)) in absurd (omega arith)
+        go false h = let z : true ≡ false = cc (ap filling (written_ill s room h)) in clash refl z
 
     -- n is the length of its snapshot
     pub bytes_length : n ≡ length (encode (state_of s))
-    unfolding written_of
-    bytes_length = let q : Bytes (length (encode (state_of s))) ≡ Bytes n = sym (ap written_of (has_one bytes_well)) ∙ e in cc
+    unfolding answer_of filling on_answer
+    bytes_length = let q : gives n ≡ gives (length (encode (state_of s))) = e ∙ ap filling (has_one bytes_well) in cc
 
     -- n is at most the longest
     pub bytes_most : n ≤ longest_snapshot
@@ -114,10 +113,10 @@ module _ (bs : List ℕ) where
     candidate_is : candidate ≡ store_of (as_read (state_of candidate))
     candidate_is = ap store_of (ap state_in (sym passed.1) ∙ state_back (state_of candidate) formed)
 
-    -- so it is the answer
-    pub read_yes : (old : Store) → ◌≡◌ {A = Stored} (record { outcome = Done; store = candidate }) (stored old (calls.read full bs))
-    unfolding stored leaves outcome_of calls.read calls.or_bad
-    read_yes old = rw decoded (λ i. record { outcome = Done; store = candidate_is i })
+    -- so it is the result
+    pub read_yes : Ok candidate ≡ stored (calls.read full bs)
+    unfolding stored result_of calls.read calls.or_bad
+    read_yes = rw decoded (ap Ok candidate_is)
 
   -- if bytes decode to a state, the store parsed from them writes them
   parsed : (t : State) → decode full bs ≡ some t → writes_these candidate bs ≡ true
@@ -134,11 +133,11 @@ module _ (bs : List ℕ) where
       (ap (same_bytes (encode (state_of candidate))) (sym writes) ∙ eq_same (encode (state_of candidate)))
 
   -- it does not write them: they are no snapshot
-  pub read_no : writes_these candidate bs ≡ false → (old : Store) → refused_by old 14 ≡ stored old (calls.read full bs)
-  unfolding refused_by calls.read calls.or_bad
-  read_no h old = go (decode full bs) refl
+  pub read_no : writes_these candidate bs ≡ false → Err Form ≡ stored (calls.read full bs)
+  unfolding stored result_of calls.read calls.or_bad
+  read_no h = go (decode full bs) refl
     where
-      go : (o : Option State) → decode full bs ≡ o → stored old (refused 14) ≡ stored old (calls.or_bad o)
+      go : (o : Option State) → decode full bs ≡ o → Err Form ≡ stored (calls.or_bad o)
       go none e = refl
       go (some t) e = clash (parsed t e) h
 

@@ -1,6 +1,6 @@
 -- Laws of snapshots in lent bytes: the lengths of levels and stores, and the snapshot of a well-formed store. Assumes nothing.
 use Prim.Native.Nat.{ℕ, ◌-◌, ◌+◌, ◌*◌, ◌≤◌, ◌<◌, min}
-use Rattle.std.specs.Prelude.{◌≡◌, refl, true, false, ◌&&◌, take, drop}
+use Rattle.std.specs.Prelude.{◌≡◌, refl, true, false, ◌&&◌, take, drop, Ok, Err}
 use Rattle.std.proofs.Math.Path.{sym, ap}
 use Rattle.std.proofs.Common.{◌∙◌, length-take-le, take_all, get_or-take, take_at}
 use mathlib.Core.List.{List, [], ◌∷◌, ◌++◌, map, map-append, map-map, Memᴰ as In}
@@ -16,12 +16,14 @@ use Rattle.lemmas.specs.UpFrom.{up_from_length}
 use Rattle.lemmas.specs.Merge.{all_at, front_laid}
 use Rattle.lemmas.specs.Maps.{map_same_in, sort_same}
 use Rattle.lemmas.specs.Laying.{put_next, sorted_length, sorted_places, map_places}
-use Rattle.model.specs.Answer.{Answer, gives, refused, first_of, ◌⇒◌, lent}
+use Rattle.model.specs.Answer.{Answer, gives, refused, first_of, ◌⇒◌, on_answer, lent}
 use Rattle.model.specs.File.{File, State, full, level, numbers, well_formed, good_file, good_counters, level_count, max_files}
 use Rattle.model.specs.Calls as calls
 use Rattle.model.proofs.Formed.{formed_says}
 use Rattle.model.specs.Snapshot.{by_number, write_file, entries, write_entry, section, write_level, five_of, encode, longest_snapshot, counters_long, fresh_long, count_long, number_long}
 use Rattle.model.proofs.SnapshotLaws.{section_length, encode_most}
+use Rattle.answers.specs.declared.Refusal.{Refusal}
+use Rattle.answers.specs.Outcome.{number_of, answer_of, filling}
 use Rattle.counters.specs.Counters.{counters_of}
 use Rattle.records.specs.declared.FileRecord.{FileRecord}
 use Rattle.records.specs.Record.{file_of, sound_record, well_record, past}
@@ -33,8 +35,7 @@ use Rattle.sorting.specs.Sorting.{by_number_at}
 use Rattle.store.specs.declared.Store.{Store}
 use Rattle.store.specs.Store.{pointer_of, well_pointer, state_of, well_store}
 use Rattle.store.specs.StoreLaws as store
-use Rattle.snapshot_write.specs.Writing.{written_of, snapshot_of}
-use Rattle.snapshot_write.specs.declared.Written.TheVariants.{Bytes, Refused}
+use Rattle.snapshot_write.specs.Writing.{snapshot_of}
 
 -- ---- levels
 
@@ -258,15 +259,15 @@ module _ (s : Store) (n : ℕ) where
   unfolding snapshot_of
   written_well h k = store.on_store_well s (λ t. calls.write full t n) h ∙ write_gives (state_of s) n ((store.well_says s).0 h).formed k
 
--- the answer of a refusal, and the output unchanged
-pub said_refused : (a : Answer (List ℕ)) (n : ℕ) (out : List ℕ) → a ≡ refused n → (Refused n ≡ written_of a) × (out ≡ lent a out)
-unfolding written_of lent
-said_refused a n out e = rw e (refl, refl)
+-- the result of a refusal, and the output unchanged
+pub said_refused : (a : Answer (List ℕ)) (r : Refusal) (out : List ℕ) → a ≡ refused (number_of r) → (answer_of (Err r) ≡ filling a) × (out ≡ lent a out)
+unfolding answer_of filling on_answer lent
+said_refused a r out e = rw e (refl, refl)
 
--- the answer of a snapshot, and the output with it in front
-pub said_gives : (a : Answer (List ℕ)) (bs out o : List ℕ) (n : ℕ) → a ≡ gives bs → n ≡ length bs → o ≡ bs ++ drop (length bs) out → (Bytes n ≡ written_of a) × (o ≡ lent a out)
-unfolding written_of lent
-said_gives a bs out o n e f g = rw e (ap Bytes f, g)
+-- the result of a snapshot, and the output with it in front
+pub said_gives : (a : Answer (List ℕ)) (bs out o : List ℕ) (n : ℕ) → a ≡ gives bs → n ≡ length bs → o ≡ bs ++ drop (length bs) out → (answer_of (Ok n) ≡ filling a) × (o ≡ lent a out)
+unfolding answer_of filling on_answer lent
+said_gives a bs out o n e f g = rw e (ap gives f, g)
 
 -- no snapshot is longer than the longest
 pub snapshot_most : (s : Store) → well_store s ≡ true → length (encode (state_of s)) ≤ longest_snapshot

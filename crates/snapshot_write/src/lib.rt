@@ -11,19 +11,13 @@ ghost use Rattle.model.specs.Snapshot.{write_file, write_entry, write_level, ent
 ghost use Rattle.records.specs.Record.{file_of, well_record};
 ghost use Rattle.levels.specs.Levels.{levels_of, well_levels};
 ghost use Rattle.store.specs.Store.{pointer_of, well_pointer, state_of, well_store};
-ghost use Rattle.snapshot_write.specs.Writing.{written_of, snapshot_of};
+ghost use Rattle.answers.specs.Outcome.{answer_of, filling};
+ghost use Rattle.snapshot_write.specs.Writing.{snapshot_of};
 
 use answers::Refusal;
 use records::{FileRecord, Level, Version};
 use snapshot_parts::Snapshot;
 use store::{Pointer, Store};
-
-// The answer of `write`: how many bytes were written, or the number of the refusal.
-#[derive(Clone, Copy)]
-pub enum Written {
-    Bytes(usize),
-    Refused(u8),
-}
 
 // Writes the sections of the levels, files by rising number. Returns the place after them. Requires: the levels are well-formed, and the output has these places.
 fn put_levels(
@@ -93,29 +87,23 @@ pub fn snapshot_length(s: Store) -> usize
     requires { well_store s ≡ true }
     ensures { result ≡ length (encode (state_of s)) }
 {
-    let counts = s.counts;
-    let files = s.files;
-    let pointers = s.pointers;
-    let n = levels::counted(counts);
-    Snapshot::FRESH + pointers_length(pointers) + files_length(files, n)
+    let n = levels::counted(s.counts);
+    Snapshot::FRESH + pointers_length(s.pointers) + files_length(s.files, n)
 }
 
-// Writes a store's snapshot at the start of the lent output. Past it the output stays, and a refusal writes nothing.
-pub fn write(s: Store, out: &mut [u8]) -> Written
-    ensures { (result ≡ written_of (snapshot_of s (length out.old))) × (out.new ≡ lent (snapshot_of s (length out.old)) out.old) }
+// Writes a store's snapshot at the start of the lent output, and returns how many bytes it has. Past it the output stays, and a refusal writes nothing.
+pub fn write(s: Store, out: &mut [u8]) -> Result<usize, Refusal>
+    ensures { (answer_of result ≡ filling (snapshot_of s (length out.old))) × (out.new ≡ lent (snapshot_of s (length out.old)) out.old) }
 {
     if !store::is_well_formed(s) {
-        return Written::Refused(Refusal::FORM);
+        return Err(Refusal::Form);
     }
     let n = snapshot_length(s);
     if out.len() < n {
-        return Written::Refused(Refusal::OUTPUT);
+        return Err(Refusal::Output);
     }
-    let pointers = s.pointers;
-    let files = s.files;
-    let counts = s.counts;
     let pointers_at = snapshot_parts::put_counters(out, 0, s.counters);
-    let levels_at = snapshot_parts::put_pointers(out, pointers_at, pointers);
-    put_levels(out, levels_at, files, counts);
-    Written::Bytes(n)
+    let levels_at = snapshot_parts::put_pointers(out, pointers_at, s.pointers);
+    put_levels(out, levels_at, s.files, s.counts);
+    Ok(n)
 }
