@@ -21,6 +21,7 @@ use Rattle.answers.specs.Outcome.{outcome_of, passed}
 use Rattle.answers.specs.declared.Outcome.TheVariants.{Done, Refused}
 use Rattle.keys.specs.Key.{key_of}
 use Rattle.counters.specs.Counters.{counters_of, counters_record}
+use Rattle.counters.specs.declared.Counters.{Counters}
 use Rattle.levels.specs.Levels.{well_levels, laid_out, counts_of}
 use Rattle.store.specs.Store.{pointer_of, pointer_record, sound_pointer, well_pointer, state_of, store_of, well_store, on_store, leaves, stored, refused_by, PointerShaped}
 use Rattle.store.specs.StoreLaws as store
