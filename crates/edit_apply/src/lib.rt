@@ -33,19 +33,14 @@ fn point(
     ensures { result ≡ pointed_by (take count pointings) pointers }
 {
     let mut out = pointers;
-    let mut i: usize = 0;
-    while i < count {
-        let p = pointings[i];
-        let k = p.key;
-        let kept = keys::kept(k);
-        let level = p.level;
-        if level < Level::COUNT {
-            out[level] = Pointer {
+    for p in &pointings[..count] {
+        let kept = keys::kept(p.key);
+        if p.level < Level::COUNT {
+            out[p.level] = Pointer {
                 set: true,
                 key: kept,
             };
         }
-        i += 1;
     }
     out
 }

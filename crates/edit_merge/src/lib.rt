@@ -116,17 +116,15 @@ pub fn merge(
     let mut seen = level_begun(true, 0);
     let mut i: usize = 0;
     let mut j: usize = 0;
-    let mut level: usize = 0;
-    while level < Level::COUNT {
+    for level in 0..Level::COUNT {
         let to = i + counts[level];
         let new_to = j + new_counts[level];
         seen = level_begun(seen.fits, level);
-        while i + j < to + new_to {
+        for at in i + j..to + new_to {
             let mut added = j < new_to;
             if added && i < to {
                 added = goes_before(news[order[j]], files[places[i]]);
             }
-            let at = i + j;
             let f = if added {
                 news[order[j]]
             } else {
@@ -140,7 +138,6 @@ pub fn merge(
                 i += 1;
             }
         }
-        level += 1;
     }
     Merged {
         files: out,
@@ -157,10 +154,8 @@ pub fn add_counts(
     ensures { result ≡ sums counts new_counts }
 {
     let mut made = [0usize; Level::COUNT];
-    let mut level: usize = 0;
-    while level < Level::COUNT {
+    for level in 0..Level::COUNT {
         made[level] = counts[level] + new_counts[level];
-        level += 1;
     }
     made
 }

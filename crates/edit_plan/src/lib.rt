@@ -43,13 +43,9 @@ fn deletion_columns(
     requires { (count ≤ max_deletions) × (count ≤ length levels.old) × (count ≤ length numbers.old) }
     ensures { (levels.new ≡ put levels.old 0 (levels_gone (take count deletions))) × (numbers.new ≡ put numbers.old 0 (numbers_gone (take count deletions))) }
 {
-    let mut i: usize = 0;
-    while i < count {
-        let d = deletions[i];
-        let n = d.number;
+    for (i, d) in deletions[..count].iter().enumerate() {
         levels[i] = d.level;
-        numbers[i] = n.0;
-        i += 1;
+        numbers[i] = d.number.0;
     }
 }
 
@@ -72,15 +68,10 @@ fn new_columns(
     ensures { (result ≡ keys_in (take count additions)) × (levels.new ≡ put levels.old 0 (levels_in (take count additions))) × (numbers.new ≡ put numbers.old 0 (numbers_in (take count additions))) }
 {
     let mut keys = no_keys();
-    let mut i: usize = 0;
-    while i < count {
-        let a = additions[i];
-        let n = a.number;
-        let low = a.smallest;
+    for (i, a) in additions[..count].iter().enumerate() {
         levels[i] = a.level;
-        numbers[i] = n.0;
-        keys[i] = low;
-        i += 1;
+        numbers[i] = a.number.0;
+        keys[i] = a.smallest;
     }
     keys
 }
@@ -101,14 +92,8 @@ pub fn new_records(
     ensures { result ≡ news_of (take count additions) }
 {
     let mut files = no_records();
-    let mut i: usize = 0;
-    while i < count {
-        let a = additions[i];
-        let n = a.number;
-        let low = a.smallest;
-        let high = a.largest;
-        files[i] = records::record(n, a.size, low, high);
-        i += 1;
+    for (i, a) in additions[..count].iter().enumerate() {
+        files[i] = records::record(a.number, a.size, a.smallest, a.largest);
     }
     files
 }

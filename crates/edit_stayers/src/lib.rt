@@ -25,21 +25,10 @@ pub struct Kept {
 fn has_pair(levels: &[usize], numbers: &[u64], level: usize, number: u64) -> bool
     ensures { result ≡ has_pair level number levels.now numbers.now }
 {
-    let m = levels.len();
-    let n = numbers.len();
-    let mut i: usize = 0;
-    while i < m {
-        if n <= i {
-            return false;
-        }
-        if numbers[i] == number {
-            if levels[i] == level {
-                return true;
-            }
-        }
-        i += 1;
-    }
-    false
+    levels
+        .iter()
+        .zip(numbers)
+        .any(|(l, n)| *l == level && *n == number)
 }
 
 // Whether a base file of a level stays: it is not deleted there, or also added there.
@@ -76,12 +65,10 @@ pub fn stay(
     let mut made = [0usize; Level::COUNT];
     let mut n: usize = 0;
     let mut from: usize = 0;
-    let mut level: usize = 0;
-    while level < Level::COUNT {
-        let to = from + counts[level];
+    for (level, count) in counts.iter().enumerate() {
+        let to = from + *count;
         let begin = n;
-        let mut i = from;
-        while i < to {
+        for i in from..to {
             if stays(
                 deleted_levels,
                 deleted,
@@ -93,11 +80,9 @@ pub fn stay(
                 places[n] = i;
                 n += 1;
             }
-            i += 1;
         }
         made[level] = n - begin;
         from = to;
-        level += 1;
     }
     Kept {
         places: places,
@@ -112,11 +97,8 @@ pub fn numbers_at(numbers: &[u64], places: &[usize]) -> [u64; Version::ROOM]
     ensures { result ≡ put (replicate max_files 0) 0 (map (number_at numbers.now) places.now) }
 {
     let mut out = [0u64; Version::ROOM];
-    let mut i: usize = 0;
-    while i < places.len() {
-        let at = places[i];
-        out[i] = numbers[at];
-        i += 1;
+    for (i, at) in places.iter().enumerate() {
+        out[i] = numbers[*at];
     }
     out
 }
@@ -127,17 +109,13 @@ pub fn has_twice(kept: &[u64], added: &[u64]) -> bool
     ensures { result ≡ not (distinct (kept.now ++ added.now)) }
 {
     let m = kept.len();
-    let n = added.len();
-    let mut i: usize = 0;
-    while i < n {
-        let x = added[i];
-        if sorting::is_among(kept, m, x) {
+    for (i, x) in added.iter().enumerate() {
+        if sorting::is_among(kept, m, *x) {
             return true;
         }
-        if sorting::is_among(added, i, x) {
+        if sorting::is_among(added, i, *x) {
             return true;
         }
-        i += 1;
     }
     false
 }

@@ -49,12 +49,10 @@ fn best_level(amounts: [u64; Level::COUNT]) -> usize
     ensures { result ≡ best_from (scores_by amounts) 0 1 5 }
 {
     let mut best: usize = 0;
-    let mut level: usize = 1;
-    while level < Level::LAST {
+    for level in 1..Level::LAST {
         if amounts[best] * TIMES[best] < amounts[level] * TIMES[level] {
             best = level;
         }
-        level += 1;
     }
     best
 }
