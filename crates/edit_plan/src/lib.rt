@@ -12,7 +12,7 @@ ghost use Rattle.edit_stayers.specs.Stayers.{number_at};
 ghost use Rattle.edit_order.specs.Arrangement.{are_levels};
 ghost use Rattle.edit_plan.specs.Planning.{levels_gone, numbers_gone, no_keys, keys_in, news_of, levels_in, numbers_in, stay_places, plan_of};
 
-use answers::{Outcome, Refusal};
+use answers::Refusal;
 use edit::{Addition, Deletion, Edit};
 use keys::Key;
 use records::{FileRecord, Level, Version};
@@ -21,7 +21,7 @@ use records::{FileRecord, Level, Version};
 #[derive(Clone, Copy)]
 pub struct EditPlan {
     // Whether 6 or 8 applies.
-    pub outcome: Outcome,
+    pub outcome: Result<(), Refusal>,
     // The places of the stayers, level after level.
     pub places: [usize; Version::ROOM],
     // The number of stayers of each level.
@@ -99,16 +99,16 @@ pub fn new_records(
 }
 
 // 6 if a number stands twice among all survivors, else 8 if there are more survivors than the room.
-fn crowded(twice: bool, total: usize) -> Outcome
+fn crowded(twice: bool, total: usize) -> Result<(), Refusal>
     ensures { result ≡ passed ((twice ⇒ 6) ∷ (ltb max_files total ⇒ 8) ∷ []) }
 {
     if twice {
-        return Outcome::Refused(Refusal::TWICE);
+        return Err(Refusal::Twice);
     }
     if Version::ROOM < total {
-        return Outcome::Refused(Refusal::ROOM);
+        return Err(Refusal::Room);
     }
-    Outcome::Done
+    Ok(())
 }
 
 // The plan for the first m deletions and the first k additions on a base, by the column of its numbers. Internal. Requires: the column has the base's files and is
@@ -148,10 +148,10 @@ pub fn planned(
     let order = arranged.order;
     let new_counts = arranged.counts;
     EditPlan {
-        outcome: outcome,
-        places: places,
+        outcome,
+        places,
         counts: kept_counts,
-        order: order,
-        new_counts: new_counts,
+        order,
+        new_counts,
     }
 }
