@@ -143,3 +143,9 @@ module _ {A B : Type 0} (f : A → B) (a : A) where
 -- the result of a call that hands on a refusal by `?`
 pub handed_on : {T : Type 0} (x : Result T code.Refusal) (r : code.Refusal) → IsErrAnd x (λ e. e ≡ r) → x ≡ Err r
 handed_on x r h = let p = err_from_is_err_and x h in p.1 ∙ ap Err p.2
+
+-- an answer whose outcome is a refusal has that refusal as its result in any form
+pub refused_alike : {A B : Type 0} (f : A → B) (a : Answer A) (r : code.Refusal) → outcome_of a ≡ Err r → result_of f a ≡ Err r
+unfolding outcome_of result_of
+refused_alike f (gives x) r q = let z : true ≡ false = cc in clash refl z
+refused_alike f (refused n) r q = cc

@@ -3,13 +3,11 @@ use Rattle.std.specs.Prelude.{◌≡◌, true, ℕ, ◌≤◌, List, [], ◌∷�
 use Rattle.lemmas.specs.Lists.{distinct, join, sum}
 use Rattle.model.specs.File.{max_additions, max_deletions, max_files}
 use Rattle.model.specs.Edit as model
-use Rattle.answers.specs.declared.Outcome.TheVariants.{Done}
 use Rattle.keys.specs.Key.{key_of, key_record}
 use Rattle.counters.specs.Counters.{counters_of, counters_record}
 use Rattle.records.specs.declared.FileRecord.{FileRecord}
 use Rattle.store.specs.declared.Pointer.{Pointer}
 use Rattle.store.specs.declared.Store.{Store}
-use Rattle.store.specs.declared.Stored.{Stored}
 use Rattle.edit.specs.Edit.{log_of}
 use Rattle.edit.specs.declared.Pointing.{Pointing}
 use Rattle.edit.specs.declared.Edit.{Edit}
@@ -47,13 +45,10 @@ pointed_by [] ps = ps
 pointed_by (q ∷ qs) ps = pointed_by qs (set ps q.level (record { set = true; key = key_record (key_of q.key) }))
 
 -- the store that an accepted edit leaves: the survivors by the plan, their counts, and the edit's pointers and log number
-unfoldable pub accepted_by : Store → Edit → EditPlan → List FileRecord → Stored
+unfoldable pub accepted_by : Store → Edit → EditPlan → List FileRecord → Store
 accepted_by s e p files = record {
-  store = record {
-    files = files;
-    counts = sums p.counts p.new_counts;
-    pointers = pointed_by (take e.pointing_count e.pointings) s.pointers;
-    counters = counters_record (model.logged (log_of e.log) (counters_of s.counters));
-  };
-  outcome = Done;
+  files = files;
+  counts = sums p.counts p.new_counts;
+  pointers = pointed_by (take e.pointing_count e.pointings) s.pointers;
+  counters = counters_record (model.logged (log_of e.log) (counters_of s.counters));
 }

@@ -1,5 +1,5 @@
 -- What the contract of `edit_apply` says: when an edit is accepted, the files that it then leaves, and what a refusal leaves. Assumes nothing.
-use Rattle.std.specs.Prelude.{ℕ, zero, suc, ◌+◌, ◌<◌, ◌≡◌, refl, ◌↔◌, ◌⊎◌, Bool, true, false, not, cond, length, get_or}
+use Rattle.std.specs.Prelude.{ℕ, zero, suc, ◌+◌, ◌<◌, ◌≡◌, refl, ◌↔◌, ◌⊎◌, Bool, true, false, not, cond, length, get_or, Result, Ok, Err}
 use Rattle.std.proofs.Common.{sym, ap, ◌∙◌, subst, arith}
 use mathlib.Core.List.{List, [], ◌++◌, Memᴰ as In}
 use Rattle.lemmas.specs.Order.{clash}
@@ -12,27 +12,37 @@ use Rattle.model.specs.Edit.{added, left_deleted, survivors, survivors_from, app
 use Rattle.model.proofs.EditLaws.{ties_with, Accepted, survivors_in, survivors_ordered, survivors_stable, survivors_from_at, survivors_from_length, edit_accepts}
 use Rattle.model.proofs.Formed.{Words, formed_says, edit_keeps, empty_edit_lem}
 use Rattle.model.proofs.PickedLaws.{levelwise_at}
-use Rattle.answers.specs.Outcome.{outcome_of}
-use Rattle.answers.specs.declared.Outcome.TheVariants.{Done, Refused}
+use Rattle.answers.specs.Outcome.{result_of}
+use Rattle.answers.specs.declared.Refusal.{Refusal}
 use Rattle.store.specs.Store.{state_of, store_of, sound_store, well_store, on_store, leaves, stored, StoreShape}
 use Rattle.store.specs.StoreLaws as store
 use Rattle.store.specs.declared.Store.{Store}
-use Rattle.store.specs.declared.Stored.{Stored}
 use Rattle.edit.specs.Edit.{edit_of, empty_record}
 use Rattle.edit.specs.EditLaws.{empty_is}
 use Rattle.edit.specs.declared.Edit.{Edit}
-use Rattle.edit_apply.specs.EditedLaws.{outcome_refused, outcome_done}
 
 -- the answer of `edit_apply::apply`, by its contract
-abbrev pub edited : Store → Edit → Stored
-edited s e = stored s (on_store s (λ t. edit full t (edit_of e)))
+abbrev pub edited : Store → Edit → Result Store Refusal
+edited s e = stored (on_store s (λ t. edit full t (edit_of e)))
 
 -- ---- when it is done
 
--- the outcome is that of the answer
-outcome_is : (s : Store) (e : Edit) → (edited s e).outcome ≡ outcome_of (on_store s (λ t. edit full t (edit_of e)))
-unfolding stored
-outcome_is s e = refl
+-- a call on a store that has a result gave an answer
+result_done : {A B : Type 0} (f : A → B) (a : Answer A) (b : B) → result_of f a ≡ Ok b → (x : A) × (a ≡ gives x)
+unfolding result_of
+result_done f (gives x) b q = (x, refl)
+result_done f (refused n) b q = let z : true ≡ false = cc in clash refl z
+
+-- one that is refused gave a refusal
+result_err : {A B : Type 0} (f : A → B) (a : Answer A) (r : Refusal) → result_of f a ≡ Err r → (n : ℕ) × (a ≡ refused n)
+unfolding result_of
+result_err f (gives x) r q = let z : true ≡ false = cc in clash refl z
+result_err f (refused n) r q = (n, refl)
+
+-- a refusal leaves the store
+left_alone : (s : Store) (a : Answer State) (n : ℕ) → a ≡ refused n → leaves s a ≡ s
+unfolding leaves
+left_alone s a n e = ap (leaves s) e
 
 -- if a call on a store gives a result, the store is sound and the call gives that result for its state
 on_store_gives : {A : Type 0} (s : Store) (call : State → Answer A) (a : A) → on_store s call ≡ gives a → (sound_store s ≡ true) × (call (state_of s) ≡ gives a)
@@ -44,23 +54,27 @@ on_store_gives {A} s call a h = go (sound_store s) refl h
     go false q k = let z : true ≡ false = cc in clash refl z
 
 -- if the edit is done, the result is the state that it leaves
-done_gives : (s : Store) (e : Edit) → (edited s e).outcome ≡ Done
+done_gives : (s : Store) (e : Edit) (t : Store) → edited s e ≡ Ok t
     → (sound_store s ≡ true) × Accepted full (state_of s) (edit_of e) (applied (edit_of e) (state_of s)) × (on_store s (λ t. edit full t (edit_of e)) ≡ gives (applied (edit_of e) (state_of s)))
-done_gives s e h =
+unfolding stored
+done_gives s e t h =
     let m = edit_of e in
-    let d = outcome_done (on_store s (λ t. edit full t m)) (sym (outcome_is s e) ∙ h) in
+    let d = result_done store_of (on_store s (λ t. edit full t m)) t h in
     let g = on_store_gives s (λ t. edit full t m) d.0 d.1 in
     let k = (edit_accepts full (state_of s) m d.0).0 g.1 in
     let same : d.0 ≡ applied m (state_of s) = sym k.result in
     (g.0, subst (λ (t : State). Accepted full (state_of s) m t) same k, d.1 ∙ ap (λ (t : State). gives t) same)
 
 -- an edit is done exactly if no refusal applies
-pub apply_accepts : (s : Store) (e : Edit) → (edited s e).outcome ≡ Done ↔ ((sound_store s ≡ true) × Accepted full (state_of s) (edit_of e) (applied (edit_of e) (state_of s)))
-unfolding on_store outcome_of
+pub apply_accepts : (s : Store) (e : Edit) → ((t : Store) × (edited s e ≡ Ok t)) ↔ ((sound_store s ≡ true) × Accepted full (state_of s) (edit_of e) (applied (edit_of e) (state_of s)))
+unfolding on_store stored result_of
 apply_accepts s e = (
-  λ h. let d = done_gives s e h in (d.0, d.1),
-  λ h. outcome_is s e ∙ ap (λ (b : Bool). outcome_of (cond b (edit full (state_of s) (edit_of e)) (refused 14))) h.0
-      ∙ ap (λ (a : Answer State). outcome_of a) ((edit_accepts full (state_of s) (edit_of e) (applied (edit_of e) (state_of s))).1 h.1),
+  λ h. let d = done_gives s e h.0 h.1 in (d.0, d.1),
+  λ h. (
+    store_of (applied (edit_of e) (state_of s)),
+    ap (λ (b : Bool). stored (cond b (edit full (state_of s) (edit_of e)) (refused 14))) h.0
+        ∙ ap stored ((edit_accepts full (state_of s) (edit_of e) (applied (edit_of e) (state_of s))).1 h.1),
+  ),
 )
 
 -- ---- the store that it leaves
@@ -108,13 +122,14 @@ survivors_left m t l h c =
     }
 
 -- an accepted edit leaves such a store
-pub apply_files : (s : Store) (e : Edit) → Words (edit_of e) → (edited s e).outcome ≡ Done → Left s e (edited s e).store
-unfolding stored leaves
-apply_files s e words h =
+pub apply_files : (s : Store) (e : Edit) → Words (edit_of e) → (t : Store) → edited s e ≡ Ok t → Left s e t
+unfolding stored result_of
+apply_files s e words t h =
     let m = edit_of e in
-    let d = done_gives s e h in
+    let d = done_gives s e t h in
     let k = d.1 in
-    let left : (edited s e).store ≡ store_of (applied m (state_of s)) = ap (leaves s) d.2 in
+    let same : Ok t ≡ Ok (store_of (applied m (state_of s))) = sym h ∙ ap stored d.2 in
+    let left : t ≡ store_of (applied m (state_of s)) = cc in
     let formed = (formed_says full (applied m (state_of s))).1 (edit_keeps full (state_of s) m (applied m (state_of s)) words ((edit_accepts full (state_of s) m (applied m (state_of s))).1 k)) in
     let held = (store.held (applied m (state_of s)) formed).0 in
     let seven = ((formed_says full (state_of s)).0 k.formed).levels in
@@ -125,18 +140,17 @@ apply_files s e words h =
     }
 
 -- ---- after a refusal
--- the store is the one given: its files, pointers and counters
-pub apply_refused : (s : Store) (e : Edit) (n : ℕ) → (edited s e).outcome ≡ Refused n → (edited s e).store ≡ s
-unfolding stored leaves
-apply_refused s e n h =
-    ap (leaves s) (outcome_refused (on_store s (λ t. edit full t (edit_of e))) n (sym (outcome_is s e) ∙ h))
+-- the store that the call leaves is the one given: its files, pointers and counters
+pub apply_refused : (s : Store) (e : Edit) (r : Refusal) → edited s e ≡ Err r → leaves s (on_store s (λ t. edit full t (edit_of e))) ≡ s
+unfolding stored
+apply_refused s e r h = let d = result_err store_of (on_store s (λ t. edit full t (edit_of e))) r h in left_alone s (on_store s (λ t. edit full t (edit_of e))) d.0 d.1
 
 -- ---- the empty edit is done and leaves a well-formed store as it is
-pub apply_empty : (s : Store) → StoreShape s → well_store s ≡ true → edited s empty_record ≡ record { outcome = Done; store = s }
-unfolding stored leaves outcome_of
+pub apply_empty : (s : Store) → StoreShape s → well_store s ≡ true → edited s empty_record ≡ Ok s
+unfolding stored result_of
 apply_empty s q h =
     let w = (store.well_says s).0 h in
     let a : on_store s (λ t. edit full t (edit_of empty_record)) ≡ gives (state_of s) =
     store.on_store_well s (λ t. edit full t (edit_of empty_record)) h ∙ ap (edit full (state_of s)) empty_is ∙ empty_edit_lem full (state_of s) w.formed in
     let c = store.canonical s q w.sound in
-    ap (stored s) a ∙ (λ i. record { outcome = Done; store = sym c i })
+    ap stored a ∙ ap Ok (sym c)

@@ -1,5 +1,5 @@
 -- Laws of an edit on a store: its pointers and log number, its answer by the built survivors, and the tests before. Assumes nothing.
-use Rattle.std.specs.Prelude.{ℕ, ◌≤◌, ◌≡◌, refl, true, false, not, ◌&&◌, ltb, length, take, set}
+use Rattle.std.specs.Prelude.{ℕ, ◌≤◌, ◌≡◌, refl, true, false, not, ◌&&◌, ltb, length, take, set, Ok, Err}
 use Rattle.std.proofs.Common.{sym, ◌∙◌, ltb-false}
 use Rattle.std.proofs.Math.Path.{ap}
 use mathlib.Core.List.Memᴰ.{head as here}
@@ -17,13 +17,13 @@ use Rattle.model.specs.File as file
 use Rattle.model.specs.File.{File, State, full, numbers, good_file, well_formed, no_collision, levelwise, level_count, max_files}
 use Rattle.model.specs.Edit as model
 use Rattle.model.specs.Edit.{survivors_from, pointed, logged, applied, result_refusals, edit}
-use Rattle.answers.specs.Outcome.{outcome_of, passed}
-use Rattle.answers.specs.declared.Outcome.TheVariants.{Done, Refused}
+use Rattle.answers.specs.Outcome.{refusal_of, outcome_of, result_of, passed}
+use Rattle.answers.specs.declared.Refusal as code
+use Rattle.answers.specs.declared.Refusal.TheVariants.{Collision, Form}
 use Rattle.keys.specs.Key.{key_of}
 use Rattle.counters.specs.Counters.{counters_of, counters_record}
-use Rattle.counters.specs.declared.Counters.{Counters}
 use Rattle.levels.specs.Levels.{well_levels, laid_out, counts_of}
-use Rattle.store.specs.Store.{pointer_of, pointer_record, sound_pointer, well_pointer, state_of, store_of, well_store, on_store, leaves, stored, refused_by, PointerShaped}
+use Rattle.store.specs.Store.{pointer_of, pointer_record, sound_pointer, well_pointer, state_of, store_of, well_store, on_store, stored, PointerShaped}
 use Rattle.store.specs.StoreLaws as store
 use Rattle.store.specs.declared.Pointer.{Pointer}
 use Rattle.store.specs.declared.Store.{Store}
@@ -33,7 +33,7 @@ use Rattle.edit.specs.EditLaws.{Few}
 use Rattle.edit.specs.declared.Edit.{Edit}
 use Rattle.edit.specs.declared.Pointing.{Pointing}
 use Rattle.edit_entries.specs.Entries.{checks}
-use Rattle.answers.specs.OutcomeLaws.{passed_is, passed_refused, passed_none}
+use Rattle.answers.specs.OutcomeLaws.{passed_refused, passed_none, result_refused}
 use Rattle.edit_entries.specs.EntryLaws.{Checked}
 use Rattle.edit_plan.specs.Planning.{additions_fine, crowding}
 use Rattle.edit_apply.specs.Apply.{pointed_by}
@@ -57,14 +57,14 @@ pointers_after ps e shaped sound w =
 
 -- ---- the tests before the build: 14, 3, 9, the entries
 
--- an answer whose outcome is refused is refused
-pub outcome_refused : {A : Type 0} (a : Answer A) (n : ℕ) → outcome_of a ≡ Refused n → a ≡ refused n
+-- an answer whose outcome is refused is refused, with the refusal's number
+pub outcome_refused : {A : Type 0} (a : Answer A) (r : code.Refusal) → outcome_of a ≡ Err r → (n : ℕ) × (a ≡ refused n) × (refusal_of n ≡ r)
 unfolding outcome_of
-outcome_refused (gives x) n q = let z : true ≡ false = cc in clash refl z
-outcome_refused (refused k) n q = cc
+outcome_refused (gives x) r q = let z : true ≡ false = cc in clash refl z
+outcome_refused (refused k) r q = (k, refl, cc)
 
 -- an answer whose outcome is done has a result
-pub outcome_done : {A : Type 0} (a : Answer A) → outcome_of a ≡ Done → (x : A) × (a ≡ gives x)
+pub outcome_done : {A : Type 0} (a : Answer A) → outcome_of a ≡ Ok tt → (x : A) × (a ≡ gives x)
 unfolding outcome_of
 outcome_done (gives x) q = (x, refl)
 outcome_done (refused k) q = let z : true ≡ false = cc in clash refl z
@@ -72,7 +72,7 @@ outcome_done (refused k) q = let z : true ≡ false = cc in clash refl z
 -- ---- the answer by the plan and the built survivors
 
 -- if neither 6 nor 8 applies there is room for all
-pub crowding_room : (ns : List ℕ) → passed (crowding ns) ≡ Done → length ns ≤ max_files
+pub crowding_room : (ns : List ℕ) → passed (crowding ns) ≡ Ok tt → length ns ≤ max_files
 unfolding crowding full ◌⇒◌
 crowding_room ns h = ltb-false max_files (length ns) (passed_none (crowding ns) h (ltb max_files (length ns) ⇒ 8) (there (here refl)))
 
@@ -84,15 +84,15 @@ result_refusals_lem ns ls d n = rw (d, n)
 
 module _ (s : Store) (m : model.Edit) (ns : List ℕ) (once : distinct ns ≡ distinct (numbers (join (survivors_from m 0 (state_of s).files)))) (total : length ns ≡ length (join (survivors_from m 0 (state_of s).files))) where
   -- 6 or 8 applies: the store unchanged
-  pub rebuilt_crowded : (n : ℕ) → passed (crowding ns) ≡ Refused n → refused_by s n ≡ stored s (first_of (result_refusals full (survivors_from m 0 (state_of s).files)) (applied m (state_of s)))
-  unfolding refused_by
-  rebuilt_crowded n h =
+  pub rebuilt_crowded : (r : code.Refusal) → passed (crowding ns) ≡ Err r → Err r ≡ stored (first_of (result_refusals full (survivors_from m 0 (state_of s).files)) (applied m (state_of s)))
+  unfolding stored
+  rebuilt_crowded r h =
       let ls = survivors_from m 0 (state_of s).files in
       let last = (not (levelwise no_collision 0 ls) ⇒ 7) ∷ [] in
-      let first = outcome_refused (first_of (crowding ns ++ last) (applied m (state_of s))) n (sym (passed_is (crowding ns ++ last) (applied m (state_of s))) ∙ passed_refused last (crowding ns) n h) in
-      ap (stored s) (sym (ap (λ (rs : List Refusal). first_of rs (applied m (state_of s))) (result_refusals_lem ns ls once total) ∙ first))
+      let first = result_refused store_of (applied m (state_of s)) (crowding ns ++ last) r (passed_refused last (crowding ns) r h) in
+      sym (ap (λ (rs : List Refusal). stored (first_of rs (applied m (state_of s)))) (result_refusals_lem ns ls once total) ∙ first)
 
-  module _ (h : passed (crowding ns) ≡ Done) where
+  module _ (h : passed (crowding ns) ≡ Ok tt) where
     -- neither applies: 7 decides
     left : first_of (result_refusals full (survivors_from m 0 (state_of s).files)) (applied m (state_of s))
         ≡ first_of ((not (levelwise no_collision 0 (survivors_from m 0 (state_of s).files)) ⇒ 7) ∷ []) (applied m (state_of s))
@@ -103,19 +103,19 @@ module _ (s : Store) (m : model.Edit) (ns : List ℕ) (once : distinct ns ≡ di
 
     -- survivors collide: the store unchanged, with 7
     pub rebuilt_colliding : levelwise no_collision 0 (survivors_from m 0 (state_of s).files) ≡ false
-        → refused_by s 7 ≡ stored s (first_of (result_refusals full (survivors_from m 0 (state_of s).files)) (applied m (state_of s)))
-    unfolding refused_by first_of ◌⇒◌
-    rebuilt_colliding c = ap (stored s) (sym (left ∙ rw c))
+        → Err Collision ≡ stored (first_of (result_refusals full (survivors_from m 0 (state_of s).files)) (applied m (state_of s)))
+    unfolding stored result_of first_of ◌⇒◌
+    rebuilt_colliding c = sym (ap stored left ∙ rw c)
 
     -- none collide: the survivors, and only now the pointers and the log number
     pub rebuilt_done : levelwise no_collision 0 (survivors_from m 0 (state_of s).files) ≡ true
         → (t : Store) → t.files ≡ laid_out (survivors_from m 0 (state_of s).files) → t.counts ≡ counts_of (survivors_from m 0 (state_of s).files)
         → t.pointers ≡ map pointer_record (pointed m.pointers (state_of s).pointers) → t.counters ≡ counters_record (logged m.log (state_of s).counters)
-        → record { store = t; outcome = Done } ≡ stored s (first_of (result_refusals full (survivors_from m 0 (state_of s).files)) (applied m (state_of s)))
-    unfolding first_of ◌⇒◌ applied stored leaves store_of outcome_of
+        → Ok t ≡ stored (first_of (result_refusals full (survivors_from m 0 (state_of s).files)) (applied m (state_of s)))
+    unfolding first_of ◌⇒◌ applied stored result_of store_of
     rebuilt_done apart t f n p c =
         let none : first_of ((not (levelwise no_collision 0 (survivors_from m 0 (state_of s).files)) ⇒ 7) ∷ []) (applied m (state_of s)) ≡ gives (applied m (state_of s)) = rw apart in
-        (λ i. record { store = record { files = f i; counts = n i; pointers = p i; counters = c i }; outcome = Done }) ∙ ap (stored s) (sym (left ∙ none))
+        (λ i. Ok (record { files = f i; counts = n i; pointers = p i; counters = c i })) ∙ ap stored (sym (left ∙ none))
 
 -- ---- the tests of the state and the entries
 
@@ -132,9 +132,9 @@ module _ (t : State) (m : model.Edit) where
 
 module _ (s : Store) (m : model.Edit) where
   -- a store that is not well-formed: 14
-  pub apply_ill : well_store s ≡ false → refused_by s 14 ≡ stored s (on_store s (λ t. edit full t m))
-  unfolding refused_by
-  apply_ill h = ap (stored s) (sym (store.on_store_ill s (λ t. edit full t m) (edit_ill (state_of s) m) h))
+  pub apply_ill : well_store s ≡ false → Err Form ≡ stored (on_store s (λ t. edit full t m))
+  unfolding stored result_of
+  apply_ill h = ap stored (sym (store.on_store_ill s (λ t. edit full t m) (edit_ill (state_of s) m) h))
 
   module _ (well : well_store s ≡ true) where
     -- the call's answer for a well-formed store's state
@@ -142,20 +142,20 @@ module _ (s : Store) (m : model.Edit) where
     formed = store.on_store_well s (λ t. edit full t m) well ∙ edit_formed (state_of s) m ((store.well_says s).0 well).formed
 
     -- a test of the entries applies: the store unchanged
-    pub apply_unfit : (n : ℕ) → passed (checks (state_of s).counters m) ≡ Refused n → refused_by s n ≡ stored s (on_store s (λ t. edit full t m))
-    unfolding refused_by
-    apply_unfit n p =
+    pub apply_unfit : (r : code.Refusal) → passed (checks (state_of s).counters m) ≡ Err r → Err r ≡ stored (on_store s (λ t. edit full t m))
+    unfolding stored
+    apply_unfit r p =
         let cs = checks (state_of s).counters m in
         let rs = result_refusals full (survivors_from m 0 (state_of s).files) in
-        ap (stored s) (sym (formed ∙ outcome_refused (first_of (cs ++ rs) (applied m (state_of s))) n (sym (passed_is (cs ++ rs) (applied m (state_of s))) ∙ passed_refused rs cs n p)))
+        sym (ap stored formed ∙ result_refused store_of (applied m (state_of s)) (cs ++ rs) r (passed_refused rs cs r p))
 
     -- none applies: 6, 8, 7 or the new state
-    pub apply_fit : passed (checks (state_of s).counters m) ≡ Done
-        → stored s (first_of (result_refusals full (survivors_from m 0 (state_of s).files)) (applied m (state_of s))) ≡ stored s (on_store s (λ t. edit full t m))
+    pub apply_fit : passed (checks (state_of s).counters m) ≡ Ok tt
+        → stored (first_of (result_refusals full (survivors_from m 0 (state_of s).files)) (applied m (state_of s))) ≡ stored (on_store s (λ t. edit full t m))
     apply_fit p =
         let cs = checks (state_of s).counters m in
         let rs = result_refusals full (survivors_from m 0 (state_of s).files) in
-        ap (stored s) (sym (formed ∙ first_of_after cs rs (applied m (state_of s)) (passed_none cs p)))
+        ap stored (sym (formed ∙ first_of_after cs rs (applied m (state_of s)) (passed_none cs p)))
 
 -- ---- what the build requires
 

@@ -1,5 +1,5 @@
 -- Laws of an edit whose store and entries have passed their tests: what its plan requires and says, and the answer by its survivors. Assumes nothing.
-use Rattle.std.specs.Prelude.{ℕ, ◌+◌, ◌≤◌, ◌≡◌, true, false, length, take}
+use Rattle.std.specs.Prelude.{ℕ, ◌+◌, ◌≤◌, ◌≡◌, true, false, length, take, Ok, Err}
 use Rattle.std.proofs.Math.Path.{refl, ap}
 use Rattle.std.proofs.Common.{sym, ◌∙◌, arith}
 use mathlib.Core.List.{List, map}
@@ -7,12 +7,13 @@ use Rattle.lemmas.specs.Lists.{distinct, join, sum}
 use Rattle.lemmas.specs.Slices.{parts}
 use Rattle.model.specs.File.{full, numbers, in_order, levelwise, no_collision, max_additions, max_files}
 use Rattle.model.specs.Edit.{survivors_from, edit}
-use Rattle.answers.specs.declared.Outcome.TheVariants.{Done, Refused}
+use Rattle.answers.specs.declared.Refusal as code
+use Rattle.answers.specs.declared.Refusal.TheVariants.{Collision}
 use Rattle.records.specs.Record.{AllShaped}
 use Rattle.records.specs.declared.FileRecord.{FileRecord}
 use Rattle.levels.specs.Levels.{levels_of}
 use Rattle.levels.specs.LevelsLaws as levels
-use Rattle.store.specs.Store.{state_of, well_store, on_store, stored, refused_by, StoreShape}
+use Rattle.store.specs.Store.{state_of, well_store, on_store, stored, StoreShape}
 use Rattle.store.specs.StoreLaws.{sound_says, well_says}
 use Rattle.store.specs.declared.Store.{Store}
 use Rattle.edit.specs.Edit.{edit_of}
@@ -32,7 +33,7 @@ use Rattle.edit_plan.specs.PlanLaws as plan
 use Rattle.edit_apply.specs.EditedLaws.{pointers_after, checked_fine, well_levels_lem, crowding_room, rebuilt_crowded, rebuilt_colliding, rebuilt_done, apply_fit}
 use Rattle.edit_plan.specs.declared.EditPlan.{EditPlan}
 
-module _ (s : Store) (e : Edit) (shape : StoreShape s) (roomy : HasRoom e) (well : well_store s ≡ true) (fit : passed (checks (state_of s).counters (edit_of e)) ≡ Done) where
+module _ (s : Store) (e : Edit) (shape : StoreShape s) (roomy : HasRoom e) (well : well_store s ≡ true) (fit : passed (checks (state_of s).counters (edit_of e)) ≡ Ok tt) where
   -- what is known of the edit
   checked : Checked (state_of s).counters (edit_of e)
   checked = checks_say (state_of s).counters (edit_of e) fit
@@ -107,13 +108,13 @@ module _ (s : Store) (e : Edit) (shape : StoreShape s) (roomy : HasRoom e) (well
     says = plan.plan_outcome s.files s.counts e roomy within ready base refl p q
 
     -- one applies: the store unchanged
-    pub answer_crowded : (n : ℕ) → p.outcome ≡ Refused n → refused_by s n ≡ stored s (on_store s (λ t. edit full t (edit_of e)))
+    pub answer_crowded : (r : code.Refusal) → p.outcome ≡ Err r → Err r ≡ stored (on_store s (λ t. edit full t (edit_of e)))
     unfolding state_of
-    answer_crowded n h = rebuilt_crowded s (edit_of e) every once total n (sym says ∙ h) ∙ apply_fit s (edit_of e) well fit
+    answer_crowded r h = rebuilt_crowded s (edit_of e) every once total r (sym says ∙ h) ∙ apply_fit s (edit_of e) well fit
 
-    module _ (done : p.outcome ≡ Done) where
+    module _ (done : p.outcome ≡ Ok tt) where
       -- neither applies
-      clear : passed (crowding every) ≡ Done
+      clear : passed (crowding every) ≡ Ok tt
       clear = sym says ∙ done
 
       -- the survivors are within the room
@@ -153,18 +154,18 @@ module _ (s : Store) (e : Edit) (shape : StoreShape s) (roomy : HasRoom e) (well
         collide = made_fits s.files s.counts (edit_of e) ready x u
 
         -- it applies: the store unchanged
-        pub answer_colliding : x.fits ≡ false → refused_by s 7 ≡ stored s (on_store s (λ t. edit full t (edit_of e)))
+        pub answer_colliding : x.fits ≡ false → Err Collision ≡ stored (on_store s (λ t. edit full t (edit_of e)))
         unfolding state_of
         answer_colliding h = rebuilt_colliding s (edit_of e) every once total clear (sym collide ∙ h) ∙ apply_fit s (edit_of e) well fit
 
         -- it does not: the store that the edit leaves
-        pub answer_done : x.fits ≡ true → AllShaped x.files → accepted_by s e p x.files ≡ stored s (on_store s (λ t. edit full t (edit_of e)))
+        pub answer_done : x.fits ≡ true → AllShaped x.files → Ok (accepted_by s e p x.files) ≡ stored (on_store s (λ t. edit full t (edit_of e)))
         unfolding plan_for plan_by accepted_by state_of edit_of
         answer_done h shaped =
             let sound = (sound_says s).0 ((well_says s).0 well).sound in
             let room = crowding_room every clear in
             let survive = survivors_length s.files s.counts (edit_of e) ready in
             let counts = plan.plan_counts s.files s.counts e roomy within ready base refl p q in
-            let made = made_is s.files s.counts (edit_of e) ready x u (accepted_by s e p x.files).store.counts counts (omega (arith, total)) shaped in
-            rebuilt_done s (edit_of e) every once total clear (sym collide ∙ h) (accepted_by s e p x.files).store made.0 made.1 (pointers_after s.pointers e shape.keys sound.pointers within) refl
+            let made = made_is s.files s.counts (edit_of e) ready x u (accepted_by s e p x.files).counts counts (omega (arith, total)) shaped in
+            rebuilt_done s (edit_of e) every once total clear (sym collide ∙ h) (accepted_by s e p x.files) made.0 made.1 (pointers_after s.pointers e shape.keys sound.pointers within) refl
             ∙ apply_fit s (edit_of e) well fit

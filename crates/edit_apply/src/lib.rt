@@ -1,11 +1,10 @@
 // One edit on one store. It is accepted exactly if no refusal applies, and then leaves exactly the files, pointers and log number that it names.
 #![tactic(auto)]
 
-ghost use Rattle.std.specs.Prelude.{◌≡◌, true, ◌+◌, ◌≤◌, take};
+ghost use Rattle.std.specs.Prelude.{◌≡◌, true, ◌+◌, ◌≤◌, take, Ok};
 ghost use Rattle.lemmas.specs.Lists.{sum};
 ghost use Rattle.model.specs.File.{full, max_files, max_pointers};
 ghost use Rattle.model.specs.Edit as model;
-ghost use Rattle.answers.specs.declared.Outcome.TheVariants as outcome;
 ghost use Rattle.counters.specs.Counters.{counters_of, counters_record};
 ghost use Rattle.store.specs.Store.{state_of, well_store, on_store, stored};
 ghost use Rattle.edit.specs.Edit.{edit_of, log_of};
@@ -15,13 +14,14 @@ ghost use Rattle.edit_merge.specs.Builder.{merged_of};
 ghost use Rattle.edit_plan.specs.Planning.{united};
 ghost use Rattle.edit_apply.specs.Apply.{Plannable, plan_by, plan_for, accepted_by, pointed_by};
 
-use answers::{Outcome, Refusal};
+use answers::Refusal;
 use counters::Counters;
-use edit::{Edit, NewLog, Pointing};
+use edit::{Edit, Pointing};
 use edit_merge::Merged;
 use edit_plan::EditPlan;
+use keys::FileNumber;
 use records::{FileRecord, Level, Version};
-use store::{Pointer, Store, Stored};
+use store::{Pointer, Store};
 
 // The pointers after an edit: the last for a level counts. Bytes past a key's end are not read. Requires: the count is within the pointers.
 fn point(
@@ -46,16 +46,12 @@ fn point(
 }
 
 // The counters with an edit's log number, if it names one.
-fn with_log(c: Counters, log: NewLog) -> Counters
+fn with_log(c: Counters, log: Option<FileNumber>) -> Counters
     ensures { result ≡ counters_record (model.logged (log_of log) (counters_of c)) }
 {
     match log {
-        NewLog::Keeps => c,
-        NewLog::Becomes(n) => {
-            let mut d = c;
-            d.log = n;
-            d
-        }
+        None => c,
+        Some(log) => Counters { log, ..c },
     }
 }
 
@@ -80,7 +76,7 @@ fn plan_for(column: &[u64], counts: [usize; Level::COUNT], e: Edit) -> EditPlan
 // The survivors, merged by the plan. Requires: the store is well-formed, the edit has passed the tests of its entries, the plan is the edit's, and neither 6 nor 8
 // applies.
 fn survive(s: Store, e: Edit, p: EditPlan) -> Merged
-    requires { (well_store s ≡ true) × (passed (checks (state_of s).counters (edit_of e)) ≡ outcome.Done) × (p ≡ plan_for s e) × (p.outcome ≡ outcome.Done) }
+    requires { (well_store s ≡ true) × (passed (checks (state_of s).counters (edit_of e)) ≡ Ok tt) × (p ≡ plan_for s e) × (p.outcome ≡ Ok tt) }
     ensures { result ≡ merged_of (united s.files s.counts (edit_of e)) }
 {
     let additions = e.additions;
@@ -95,62 +91,37 @@ fn survive(s: Store, e: Edit, p: EditPlan) -> Merged
 
 // The store that an accepted edit leaves: the survivors, their counts, and only now the pointers and the log number. Requires: the plan's counts are together within
 // the room, and the edit's pointers within its own.
-fn accepted(s: Store, e: Edit, p: EditPlan, files: [FileRecord; Version::ROOM]) -> Stored
+fn accepted(s: Store, e: Edit, p: EditPlan, files: [FileRecord; Version::ROOM]) -> Store
     requires { (sum p.counts + sum p.new_counts ≤ max_files) × (e.pointing_count ≤ max_pointers) }
     ensures { result ≡ accepted_by s e p files }
 {
-    let kept_counts = p.counts;
-    let new_counts = p.new_counts;
-    let counts = edit_merge::add_counts(kept_counts, new_counts);
-    let old = s.pointers;
-    let pointings = e.pointings;
-    let pointers = point(old, pointings, e.pointing_count);
-    let before = s.counters;
-    let log = e.log;
-    let counters = with_log(before, log);
-    let outcome = Outcome::Done;
-    Stored {
-        store: Store {
-            files: files,
-            counts: counts,
-            pointers: pointers,
-            counters: counters,
-        },
-        outcome: outcome,
+    let counts = edit_merge::add_counts(p.counts, p.new_counts);
+    let pointers = point(s.pointers, e.pointings, e.pointing_count);
+    let counters = with_log(s.counters, e.log);
+    Store {
+        files,
+        counts,
+        pointers,
+        counters,
     }
 }
 
 // Applies one edit to one store. It changes nothing before the build has succeeded. Each refusal has its own return, so that the store is copied once.
-pub fn apply(s: Store, e: Edit) -> Stored
-    ensures { result ≡ stored s (on_store s (λ t. model.edit full t (edit_of e))) }
+pub fn apply(s: Store, e: Edit) -> Result<Store, Refusal>
+    ensures { result ≡ stored (on_store s (λ t. model.edit full t (edit_of e))) }
 {
     let look = store::look_numbers(s);
     if !look.well {
-        return store::refuse(s, Refusal::FORM);
+        return Err(Refusal::Form);
     }
-    let counters = s.counters;
-    let o = edit_entries::check(counters, e);
-    match o {
-        Outcome::Refused(n) => {
-            return store::refuse(s, n);
-        }
-        Outcome::Done => {}
-    }
-    let counts = s.counts;
+    edit_entries::check(s.counters, e)?;
     let column = look.numbers;
     let total = look.total;
-    let p = plan_for(&column[..total], counts, e);
-    let q = p.outcome;
-    match q {
-        Outcome::Refused(n) => {
-            return store::refuse(s, n);
-        }
-        Outcome::Done => {}
-    }
+    let p = plan_for(&column[..total], s.counts, e);
+    p.outcome?;
     let merged = survive(s, e, p);
     if !merged.fits {
-        return store::refuse(s, Refusal::COLLISION);
+        return Err(Refusal::Collision);
     }
-    let files = merged.files;
-    accepted(s, e, p, files)
+    Ok(accepted(s, e, p, merged.files))
 }
