@@ -1,10 +1,10 @@
 -- Laws of a list applied to a snapshot: what each test decides, and that the outcome made of their bytes is the answer. Assumes nothing.
-use Rattle.std.specs.Prelude.{ℕ, ◌-◌, ◌≤◌, ◌<◌, ◌≡◌, refl, true, false, List, [], ◌∷◌, length, take, drop}
+use Rattle.std.specs.Prelude.{ℕ, ◌-◌, ◌≤◌, ◌<◌, ◌≡◌, refl, true, false, List, length, take, drop}
 use Rattle.std.proofs.Common.{sym, ap, ◌∙◌, arith, take_at}
 use Rattle.std.proofs.Math.Option.{Option, none, some}
 use Rattle.std.proofs.Math.Pow.{are_bytes}
 use Rattle.lemmas.specs.Order.{clash}
-use Rattle.lemmas.specs.Slices.{put, put_front}
+use Rattle.lemmas.specs.Slices.{put_front}
 use Rattle.model.specs.Answer.{gives, refused}
 use Rattle.model.specs.File.{State, full}
 use Rattle.model.specs.Calls.{read, or_bad}
@@ -23,7 +23,6 @@ use Rattle.patch_list.specs.ListLaws.{few}
 use Rattle.patch_scan.specs.Outcome.{outcome_of}
 use Rattle.patch_scan.specs.OutcomeLaws.{outcome_back}
 use Rattle.patch_scan.specs.Over.{Fitted}
-use Rattle.patch_scan.specs.FittedLaws.{piece_long, fitted_room, fitted_over}
 
 -- ---- lists
 -- what is a list is read
@@ -96,25 +95,16 @@ module _ (left list : List ℕ) (room : ℕ) where
       pub outcome_given : is_snapshot (outcome_of left list) ≡ true → length (outcome_of left list) ≤ room → patching full left list room ≡ gives (outcome_of left list)
       outcome_given e l = outcome e ∙ fitting_gives room (outcome_of left list) l
 
--- ---- the outcome in room of its own
-module _ (x own own' : List ℕ) (n m : ℕ) where
-  -- it does not fit: it is longer than the room
-  pub laid_over : Fitted own 0 (x ∷ []) own' n m false → length own < length x
-  laid_over w = omega (arith, fitted_over own 0 (x ∷ []) w, ap length (piece_long x))
+-- ---- the outcome at the start of room of its own
+module _ {x own own' : List ℕ} {n : ℕ} (w : Fitted own 0 x own' n) where
+  -- how long it is
+  pub laid_long : n ≡ length x
+  laid_long = omega (arith, w.place)
 
-  module _ (w : Fitted own 0 (x ∷ []) own' n m true) where
-    -- it fits: how long it is
-    pub laid_long : n ≡ length x
-    laid_long = omega (arith, w.place refl, ap length (piece_long x))
+  -- it is within the room
+  pub laid_within : length x ≤ length own
+  laid_within = omega (arith, w.room)
 
-    -- it stands at the start
-    pub laid_front : own' ≡ put own 0 x
-    laid_front = w.laid refl ∙ ap (put own 0) (piece_long x)
-
-    -- within the room
-    pub laid_within : length x ≤ length own
-    laid_within = omega (arith, fitted_room own 0 (x ∷ []) w, ap length (piece_long x))
-
-    -- the bytes up to its end are it
-    pub laid_cut : take (n - 0) own' ≡ x
-    laid_cut = ap (take (n - 0)) (laid_front ∙ put_front own x) ∙ take_at x (drop (length x) own) (n - 0) (omega (arith, laid_long))
+  -- the bytes up to its end are it
+  pub laid_cut : take (n - 0) own' ≡ x
+  laid_cut = ap (take (n - 0)) (w.laid ∙ put_front own x) ∙ take_at x (drop (length x) own) (n - 0) (omega (arith, w.place))

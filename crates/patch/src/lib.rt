@@ -27,11 +27,9 @@ pub fn patching(left: &[u8], list: &[u8], out: &mut [u8]) -> Result<usize, Refus
         return Err(Refusal::Form);
     }
     let mut made = room();
-    let laid = patch_over::lay_outcome(left, list, &mut made);
-    if !laid.fits {
+    let Some(n) = patch_over::lay_outcome(left, list, &mut made) else {
         return Err(Refusal::Form);
-    }
-    let n = laid.next;
+    };
     if !snapshot_read::is_snapshot(&made[0..n]) {
         return Err(Refusal::Form);
     }

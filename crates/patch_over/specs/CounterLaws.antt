@@ -1,7 +1,7 @@
 -- Laws of bytes that are written piece by piece as far as the output has room, and of the counters of an outcome, written so. Assumes nothing.
 use Prim.Native.Nat.{ℕ, zero, suc, ◌+◌, ◌-◌, ◌*◌, ◌≤◌, ◌<◌}
 use Rattle.std.specs.Prelude.{◌≡◌, refl, Bool, true, false, cond, ◌&&◌, eqb, ltb, length, take, drop}
-use Rattle.std.proofs.Common.{sym, ap, ◌∙◌, subst, lt-ltb, le-ltb, ltb-true, length-append}
+use Rattle.std.proofs.Common.{sym, ap, ◌∙◌, lt-ltb, le-ltb, ltb-true, length-append}
 use mathlib.Core.List.{List, [], ◌∷◌, ◌++◌, map-id}
 use native.Mathlib.Omega.{arith}
 use Rattle.lemmas.specs.Order.{clash}
@@ -13,10 +13,10 @@ use Rattle.model.specs.Snapshot.{section, byte_long, count_long, number_long, co
 use Rattle.snapshot_parse.specs.Parsing.{At, number_in}
 use Rattle.snapshot_parse.specs.ParsingLaws.{lent_part}
 use Rattle.difference_scan.specs.Listing.{counter_bytes, as_is}
-use Rattle.difference_list.specs.SectionLaws.{put_keeps, section_long, counter_lent}
-use Rattle.patch_scan.specs.Outcome.{counters_over}
-use Rattle.patch_scan.specs.Over.{Fitted}
-use Rattle.patch_scan.specs.FittedLaws.{piece_long, fitted_yes, fitted_no, fitted_room, fitted_over}
+use Rattle.difference_list.specs.SectionLaws.{put_keeps, counter_lent}
+use Rattle.patch_scan.specs.Outcome.{counters_over, all_counters_over}
+use Rattle.patch_scan.specs.Over.{Fitted, TooLong}
+use Rattle.patch_scan.specs.FittedLaws.{fitted}
 
 -- ---- bytes written piece by piece
 -- how far bytes are written: with what is left they are all, begun at place `at` of the output
@@ -31,37 +31,28 @@ pub begins : (out : List ℕ) (at : ℕ) (all : List ℕ) → at ≤ length out 
 begins out at all h = record { within = h; long = refl; room = refl; laid = refl }
 
 module _ {out₀ : List ℕ} {at : ℕ} {all out : List ℕ} {next : ℕ} {left : List ℕ} (w : Begun out₀ at all out next left) where
-  -- nothing is left: all is written, and it is one piece
-  pub begun_done : left ≡ [] → Fitted out₀ at (all ∷ []) out next 1 true
+  -- nothing is left: all is written
+  pub begun_done : left ≡ [] → Fitted out₀ at all out next
   begun_done e =
-      let whole = piece_long all in
       let none : length left ≡ 0 = ap length e in
-      fitted_yes out₀ at (all ∷ []) out next 1 (omega (arith, ap length whole, w.within, w.long, w.room)) (omega (arith, ap length whole, w.room)) refl
-      (sym (ap (put out next) e ∙ put_nil out next) ∙ w.laid ∙ ap (put out₀ at) (sym whole))
+      fitted out₀ at all out next (omega (arith, w.within, w.long, w.room)) (omega (arith, w.room)) (sym (ap (put out next) e ∙ put_nil out next) ∙ w.laid)
 
-  -- what is left begins with the piece x, which is written if it fits
-  module _ (x more : List ℕ) (e : left ≡ x ++ more) {out' : List ℕ} {next' count : ℕ} {fits : Bool} (g : Fitted out next (x ∷ []) out' next' count fits) where
-    -- it fits: what is after it is left
-    pub begun_on : fits ≡ true → Begun out₀ at all out' next' more
-    begun_on t =
-        let one = piece_long x in
-        let long = ap length one in
-        let has = fitted_room out next (x ∷ []) (subst (λ (b : Bool). Fitted out next (x ∷ []) out' next' count b) t g) in
-        let place = g.place t in
-        record {
-          within = omega (arith, place, has, g.long);
-          long = g.long ∙ w.long;
-          room = omega (arith, w.room, place, long, ap length e, length-append x more);
-          laid = put_next out out' (put out' next' more) next next' x more (omega (arith, has, long)) (g.laid t ∙ ap (put out next) one) (omega (arith, place, long)) refl ∙ ap (put out next) (sym e) ∙ w.laid;
-        }
+  -- what is left begins with the bytes x
+  module _ (x more : List ℕ) (e : left ≡ x ++ more) where
+    -- they are written: what is after them is left
+    pub begun_on : {out' : List ℕ} {next' : ℕ} → Fitted out next x out' next' → Begun out₀ at all out' next' more
+    begun_on {out' = out'} {next' = next'} g = record {
+      within = omega (arith, g.place, g.room, g.long);
+      long = g.long ∙ w.long;
+      room = omega (arith, w.room, g.place, ap length e, length-append x more);
+      laid = put_next out out' (put out' next' more) next next' x more g.room g.laid g.place refl ∙ ap (put out next) (sym e) ∙ w.laid;
+    }
 
-    -- it does not fit: nor does all
-    pub begun_full : fits ≡ false → (n m : ℕ) → Fitted out₀ at (all ∷ []) out' n m false
-    begun_full t n m =
-        let over = fitted_over out next (x ∷ []) (subst (λ (b : Bool). Fitted out next (x ∷ []) out' next' count b) t g) in
-        fitted_no out₀ at (all ∷ []) out' n m (omega (arith, ap length (piece_long all), ap length (piece_long x), w.room, w.long, over, ap length e, length-append x more)) (g.long ∙ w.long)
+    -- there is no room for them: nor for all
+    pub begun_full : {out' : List ℕ} → TooLong out next x out' → TooLong out₀ at all out'
+    begun_full g = record { over = omega (arith, w.room, w.long, g.over, ap length e, length-append x more); long = g.long ∙ w.long }
 
-  -- the piece x was written right before: with it more is begun
+  -- the bytes x were written right before: with them more is begun
   begun_before : (d : List ℕ) (n : ℕ) (x : List ℕ) → n + length x ≤ length d → out₀ ≡ put d n x → at ≡ n + length x → Begun d n (x ++ all) out next left
   begun_before d n x h e f = record {
     within = w.within;
@@ -75,10 +66,6 @@ module _ {out₀ : List ℕ} {at : ℕ} {all out : List ℕ} {next : ℕ} {left 
 section_count : (es : List (List ℕ)) (n : ℕ) → length es ≡ n → section as_is es ≡ bytes count_long n ++ join es
 unfolding section
 section_count es n e = rw (e, map-id es)
-
--- there is no room for the count
-pub section_full : (out : List ℕ) (at : ℕ) (es : List (List ℕ)) (n m : ℕ) → length out < at + count_long → Fitted out at (section as_is es ∷ []) out n m false
-section_full out at es n m h = fitted_no out at (section as_is es ∷ []) out n m (omega (arith, ap length (piece_long (section as_is es)), section_long es)) refl
 
 -- ---- the counters
 -- there are as many as are asked for
@@ -164,13 +151,12 @@ module _ {left list : List ℕ} {i rest list_at : ℕ} {named : Bool} {y y' x x'
       go true e = k (counters_left left list (i + 1) (rest - 1) y') (named_first e)
       go false e = k (counters_left left list (i + 1) rest list_at) (kept_first e)
 
-  -- it is written, and it fits
-  module _ {o : List ℕ} {n₀ rest₀ list_at₀ : ℕ} {out : List ℕ} {next : ℕ} (w : CountersWritten left list o n₀ rest₀ list_at₀ out rest list_at next i) {out' : List ℕ} {next' count : ℕ} {fits : Bool}
-      (g : Fitted out next (counter ∷ []) out' next' count fits) (t : fits ≡ true) where
+  -- it is written
+  module _ {o : List ℕ} {n₀ rest₀ list_at₀ : ℕ} {out : List ℕ} {next : ℕ} (w : CountersWritten left list o n₀ rest₀ list_at₀ out rest list_at next i) {out' : List ℕ} {next' : ℕ} (g : Fitted out next counter out' next') where
     -- the counters that are left then
     counter_on : (more : List (List ℕ)) → counters_left left list i rest list_at ≡ counter ∷ more → Begun o n₀ (join (counters_left left list 0 rest₀ list_at₀)) out' next' (join more)
     unfolding join
-    counter_on more e = begun_on w.begun counter (join more) (ap join e) g t
+    counter_on more e = begun_on w.begun counter (join more) (ap join e) g
 
     -- it is of the list: how far the counters are written then
     pub counter_named : named ≡ true → CountersWritten left list o n₀ rest₀ list_at₀ out' (rest - 1) y' next' (i + 1)
@@ -197,7 +183,7 @@ module _ (left : List ℕ) {list out₀ : List ℕ} {at b : ℕ} {o : List ℕ} 
 
   -- the section of the counters
   abbrev counters_section : List ℕ
-  counters_section = section as_is (counters_over 0 counter_count left (number_in count_long (drop b list)) (drop count_long (drop b list)))
+  counters_section = section as_is (all_counters_over left (drop b list))
 
   -- it is their count, then the counters
   section_is : counters_section ≡ bytes count_long counter_count ++ join (counters_left left list 0 rest₀ list_at₀)
@@ -214,14 +200,13 @@ module _ (left : List ℕ) {list out₀ : List ℕ} {at b : ℕ} {o : List ℕ} 
         let two = bytes_length count_long counter_count in
         rw section_is (begun_before w.begun out₀ at (bytes count_long counter_count) (omega (arith, s.room)) s.count (omega arith))
 
-    -- a counter does not fit: nor does the section
-    pub counter_full : {named : Bool} {y y' x x' : ℕ} (f : CounterFound left list i rest list_at named y y' x x') {out' : List ℕ} {next' count : ℕ} {fits : Bool} → Fitted out next (counter f ∷ []) out' next' count fits → fits ≡ false
-        → (n m : ℕ) → Fitted out₀ at (counters_section ∷ []) out' n m false
+    -- there is no room for a counter: nor for the section
+    pub counter_full : {named : Bool} {y y' x x' : ℕ} (f : CounterFound left list i rest list_at named y y' x x') {out' : List ℕ} → TooLong out next (counter f) out' → TooLong out₀ at counters_section out'
     unfolding join
-    counter_full f {out' = out'} g t n m = counter_first f (Fitted out₀ at (counters_section ∷ []) out' n m false) (λ more e. begun_full section_begun (counter f) (join more) (ap join e) g t n m)
+    counter_full f {out' = out'} g = counter_first f (TooLong out₀ at counters_section out') (λ more e. begun_full section_begun (counter f) (join more) (ap join e) g)
 
     -- no counter is left: the section is written
-    pub counters_done : counter_count ≤ i → Fitted out₀ at (counters_section ∷ []) out next 1 true
+    pub counters_done : counter_count ≤ i → Fitted out₀ at counters_section out next
     unfolding counters_over join
     counters_done h =
         let z : counter_count - i ≡ 0 = omega arith in

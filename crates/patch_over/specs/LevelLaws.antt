@@ -1,6 +1,6 @@
 -- Laws of the levels of an outcome, written section by section as far as the output has room. Assumes nothing.
 use Prim.Native.Nat.{ℕ, zero, suc, ◌+◌, ◌-◌, ◌≤◌, ◌<◌}
-use Rattle.std.specs.Prelude.{◌≡◌, Bool, true, false, cond, List, [], ◌∷◌, ◌++◌, eqb, length, drop}
+use Rattle.std.specs.Prelude.{◌≡◌, Bool, true, false, cond, List, ◌++◌, eqb, length, drop}
 use Rattle.std.proofs.Common.{◌∙◌}
 use native.Mathlib.Omega.{arith}
 use Rattle.model.specs.File.{level_count}
@@ -11,7 +11,7 @@ use Rattle.difference_scan.specs.Listing.{as_is}
 use Rattle.difference_scan.specs.declared.Places.{Places}
 use Rattle.patch_scan.specs.Listed.{level_in, after_listed, after_each, over_run, run_long}
 use Rattle.patch_scan.specs.Outcome.{levels_over}
-use Rattle.patch_scan.specs.Over.{Fitted}
+use Rattle.patch_scan.specs.Over.{Fitted, TooLong}
 use Rattle.patch_scan.specs.Ends.{RunEnds}
 use Rattle.patch_over.specs.CounterLaws.{Begun, begins, begun_done, begun_on, begun_full}
 
@@ -68,24 +68,22 @@ module _ {left list : List ℕ} {left_at list_at rest l : ℕ} {p : Places} (f :
       let n : suc l ≡ l + 1 = omega arith in
       rw (k, n, f.lefts, f.rights, f.at_left.rest, f.at_list)
 
-  -- it is written if it fits
-  module _ {out₀ : List ℕ} {at a₀ b₀ m₀ : ℕ} {out : List ℕ} {next : ℕ} (w : LevelsWritten left list out₀ at a₀ b₀ m₀ out left_at list_at rest next l) {out' : List ℕ} {next' count : ℕ} {fits : Bool}
-      (g : Fitted out next (level_section ∷ []) out' next' count fits) where
-    -- it fits: how far the levels are written then
-    pub level_on : fits ≡ true → (a b : ℕ) → RunEnds false left list p a b → LevelsWritten left list out₀ at a₀ b₀ m₀ out' a b (rest - p.rights) next' (l + 1)
-    level_on t a b e = record {
+  module _ {out₀ : List ℕ} {at a₀ b₀ m₀ : ℕ} {out : List ℕ} {next : ℕ} (w : LevelsWritten left list out₀ at a₀ b₀ m₀ out left_at list_at rest next l) {out' : List ℕ} where
+    -- it is written: how far the levels are written then
+    pub level_on : {next' : ℕ} → Fitted out next level_section out' next' → (a b : ℕ) → RunEnds false left list p a b → LevelsWritten left list out₀ at a₀ b₀ m₀ out' a b (rest - p.rights) next' (l + 1)
+    level_on g a b e = record {
       in_left = e.at_left.within;
       in_list = e.at_list.within;
       few_rest = omega (arith, w.few_rest);
-      begun = begun_on w.begun level_section (levels_left left list (l + 1) a (rest - p.rights) b) (levels_first ∙ rw (e.at_left.rest, e.at_list.rest)) g t;
+      begun = begun_on w.begun level_section (levels_left left list (l + 1) a (rest - p.rights) b) (levels_first ∙ rw (e.at_left.rest, e.at_list.rest)) g;
     }
 
-    -- it does not fit: nor do all levels
-    pub level_full : fits ≡ false → (n m : ℕ) → Fitted out₀ at (levels_over level_count 0 (drop a₀ left) m₀ (drop b₀ list) ∷ []) out' n m false
-    level_full t n m = begun_full w.begun level_section later levels_first g t n m
+    -- there is no room for it: nor for all levels
+    pub level_full : TooLong out next level_section out' → TooLong out₀ at (levels_over level_count 0 (drop a₀ left) m₀ (drop b₀ list)) out'
+    level_full g = begun_full w.begun level_section later levels_first g
 
 -- no level is left: all are written
 pub levels_done : {left list out₀ : List ℕ} {at a b m : ℕ} {out : List ℕ} {left_at list_at rest next l : ℕ} → LevelsWritten left list out₀ at a b m out left_at list_at rest next l → level_count ≤ l
-    → Fitted out₀ at (levels_over level_count 0 (drop a left) m (drop b list) ∷ []) out next 1 true
+    → Fitted out₀ at (levels_over level_count 0 (drop a left) m (drop b list)) out next
 unfolding levels_over
 levels_done {l = l} w h = let k : level_count - l ≡ 0 = omega arith in begun_done w.begun (rw k)

@@ -31,9 +31,17 @@ levels_over (suc k) l bs m cs =
     let r : ℕ = run_long l m cs in
     section as_is (over_run false n (drop count_long bs) r cs) ++ levels_over k (suc l) (after_all false n (drop count_long bs)) (m - r) (after_each false r cs)
 
+-- all counters, with the entries of counters in these bytes of a list laid over them
+abbrev pub all_counters_over : List ℕ → List ℕ → List (List ℕ)
+all_counters_over bs ds = counters_over 0 counter_count bs (number_in count_long ds) (drop count_long ds)
+
+-- the pointers, with the entries of pointers in these bytes of a list laid over them
+abbrev pub pointers_over : List ℕ → List ℕ → List (List ℕ)
+pointers_over bs ds = over_run true (number_in count_long (pointers_at bs)) (drop count_long (pointers_at bs)) (number_in count_long ds) (drop count_long ds)
+
 -- the whole snapshot: counters, pointers, levels
 unfoldable pub outcome_of : List ℕ → List ℕ → List ℕ
 outcome_of bs ds =
-    section as_is (counters_over 0 counter_count bs (number_in count_long (counters_in ds)) (drop count_long (counters_in ds)))
-    ++ (section as_is (over_run true (number_in count_long (pointers_at bs)) (drop count_long (pointers_at bs)) (number_in count_long (pointers_in ds)) (drop count_long (pointers_in ds)))
+    section as_is (all_counters_over bs (counters_in ds))
+    ++ (section as_is (pointers_over bs (pointers_in ds))
     ++ levels_over level_count 0 (levels_at bs) (number_in count_long ds) (drop count_long ds))

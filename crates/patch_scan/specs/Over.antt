@@ -1,6 +1,5 @@
 -- One turn of a list laid over a snapshot: what goes first, what is written of it, and how far the output holds it. Assumes nothing.
-use Rattle.std.specs.Prelude.{ℕ, ◌+◌, ◌≡◌, Bool, cond, true, false, List, [], ◌∷◌, eqb, leb, length, drop}
-use Rattle.lemmas.specs.Lists.{join}
+use Rattle.std.specs.Prelude.{ℕ, ◌+◌, ◌≡◌, ◌≤◌, ◌<◌, Bool, cond, true, false, List, [], ◌∷◌, eqb, length, drop}
 use Rattle.lemmas.specs.Slices.{put}
 use Rattle.model.specs.Snapshot.{byte_long}
 use Rattle.model.specs.DifferenceBytes.{left_kind, head_long}
@@ -30,10 +29,14 @@ piece_of p k x y = cond (eqb k left_kind) (x ∷ []) (brought_by p y)
 unfoldable pub listed_after : Bool → ℕ → ℕ → List ℕ → List ℕ
 listed_after p o k cs = cond (eqb k o) cs (after_listed p cs)
 
--- pieces written at a place, if they fit: then the place after them, how many they are, and the output. The output keeps its length
-pub record Fitted (out₀ : List ℕ) (at : ℕ) (es : List (List ℕ)) (out : List ℕ) (next count : ℕ) (fits : Bool) : Type 0 where
-  pub fit : fits ≡ leb (at + length (join es)) (length out₀)
+-- there is room for bytes at a place, and they are written there: the place after them, and the output, which keeps its length
+pub record Fitted (out₀ : List ℕ) (at : ℕ) (bs out : List ℕ) (next : ℕ) : Type 0 where
+  pub room : at + length bs ≤ length out₀
   pub long : length out ≡ length out₀
-  pub place : fits ≡ true → next ≡ at + length (join es)
-  pub many : fits ≡ true → count ≡ length es
-  pub laid : fits ≡ true → out ≡ put out₀ at (join es)
+  pub place : next ≡ at + length bs
+  pub laid : out ≡ put out₀ at bs
+
+-- there is no room for them: the output keeps its length
+pub record TooLong (out₀ : List ℕ) (at : ℕ) (bs out : List ℕ) : Type 0 where
+  pub over : length out₀ < at + length bs
+  pub long : length out ≡ length out₀

@@ -12,7 +12,7 @@ use Rattle.lemmas.specs.Slices.{put, put_append, join_append}
 use Rattle.model.specs.Snapshot.{byte_long}
 use Rattle.model.specs.DifferenceBytes.{left_kind, right_kind, head_long}
 use Rattle.snapshot_parse.specs.Parsing.{At, number_in}
-use Rattle.difference_scan.specs.Scan.{after_part, part_bytes, after_all}
+use Rattle.difference_scan.specs.Scan.{after_part, after_all}
 use Rattle.difference_scan.specs.ScanLaws.{cut_lent, part_lent}
 use Rattle.difference_scan.specs.Turns.{left_over, place_after, bytes_after}
 use Rattle.difference_scan.specs.TurnLaws.{place_after_lem, over_less, all_none}
@@ -20,10 +20,10 @@ use Rattle.difference_scan.specs.Listing.{advanced_by}
 use Rattle.difference_scan.specs.declared.Places.{Places}
 use Rattle.difference_scan.specs.declared.Turn.{Turn}
 use Rattle.patch_scan.specs.Listed.{kind_in, brought_by, after_listed, listed_bytes, after_each, over_run}
-use Rattle.patch_scan.specs.Over.{over_kind, piece_of, listed_after, Fitted}
+use Rattle.patch_scan.specs.Over.{over_kind, piece_of, listed_after, Fitted, TooLong}
 use Rattle.patch_scan.specs.Ends.{RunEnds}
 use Rattle.patch_scan.specs.OverLaws.{OverTurned, over_turned, each_none, over_none}
-use Rattle.patch_scan.specs.FittedLaws.{fitted_yes, fitted_no, fitted_room, fitted_over}
+use Rattle.patch_scan.specs.FittedLaws.{fitted}
 
 -- the bytes between an entry's place and its end are the entry
 pub listed_lent : (p : Bool) (src : List ℕ) (at end : ℕ) → at ≤ end → At src end (after_listed p (drop at src)) → take (end - at) (drop at src) ≡ listed_bytes p (drop at src)
@@ -118,26 +118,24 @@ module _ (p : Bool) (left list : List ℕ) where
         ∙ rw (part_lent p left q.left t.left f.up_left f.end_left, listed_lent p list q.right t.right f.up_list f.end_list, left_on.rest, list_on.rest)
 
     -- it is written: how far the run is written then
-    pub over_on : {out₀ : List ℕ} {at : ℕ} {q₀ : Places} {out : List ℕ} {next count : ℕ} → OverWritten out₀ at q₀ out q next count → (out' : List ℕ) (next' more : ℕ) → Fitted out next piece out' next' more true
+    pub over_on : {out₀ : List ℕ} {at : ℕ} {q₀ : Places} {out : List ℕ} {next count : ℕ} → OverWritten out₀ at q₀ out q next count → (out' : List ℕ) (next' more : ℕ) → Fitted out next (join piece) out' next' → more ≡ length piece
         → OverWritten out₀ at q₀ out' (advanced_by q t) next' (count + more)
     unfolding advanced_by
-    over_on {out₀ = out₀} {at = at} {q₀ = q₀} {out = out} {next = next} {count = count} w out' next' more g =
+    over_on {out₀ = out₀} {at = at} {q₀ = q₀} {out = out} {next = next} {count = count} w out' next' more g many =
         let after = over_at (advanced_by q t) in
-        let fits = fitted_room out next piece g in
         let all : join (over_at q) ≡ join piece ++ join after = ap join pieces_on ∙ join_append piece after in
         let long : length (join (over_at q)) ≡ length (join piece) + length (join after) = ap length all ∙ length-append (join piece) (join after) in
-        let e = g.place refl in
         record {
           in_left = left_on.within;
           in_list = list_on.within;
           few_lefts = omega (arith, w.few_lefts, over_less right_kind t.kind q.lefts);
           few_rights = omega (arith, w.few_rights, over_less left_kind t.kind q.rights);
-          within = omega (arith, e, fits, g.long);
+          within = omega (arith, g.place, g.room, g.long);
           long = g.long ∙ w.long;
-          room = omega (arith, w.room, long, e);
-          number = omega (arith, w.number, g.many refl, ap length pieces_on, length-append piece after);
-          small = omega (arith, w.small, g.many refl, piece_few, fewer);
-          laid = rw (e, g.laid refl) (put_append out next (join piece) (join after) fits) ∙ ap (put out next) (sym all) ∙ w.laid;
+          room = omega (arith, w.room, long, g.place);
+          number = omega (arith, w.number, many, ap length pieces_on, length-append piece after);
+          small = omega (arith, w.small, many, piece_few, fewer);
+          laid = rw (g.place, g.laid) (put_append out next (join piece) (join after) g.room) ∙ ap (put out next) (sym all) ∙ w.laid;
           after_left = ap (after_all p (left_over right_kind t.kind q.lefts)) left_on.rest ∙ sym over_finds.left_after ∙ w.after_left;
           after_list = ap (after_each p (left_over left_kind t.kind q.rights)) list_on.rest ∙ sym over_finds.list_after ∙ w.after_list;
         }
@@ -149,21 +147,25 @@ module _ (p : Bool) (left list : List ℕ) where
         fewer = over_fewer
 
     -- it does not fit: nor does the run
-    pub over_full : {out₀ : List ℕ} {at : ℕ} {q₀ : Places} {out : List ℕ} {next count : ℕ} → OverWritten out₀ at q₀ out q next count → (out' : List ℕ) (next' more : ℕ) → Fitted out next piece out' next' more false
-        → (n m : ℕ) → Fitted out₀ at (over_at q₀) out' n m false
-    over_full {out₀ = out₀} {at = at} {q₀ = q₀} {out = out} {next = next} {count = count} w out' next' more g n m =
+    pub over_full : {out₀ : List ℕ} {at : ℕ} {q₀ : Places} {out : List ℕ} {next count : ℕ} → OverWritten out₀ at q₀ out q next count → (out' : List ℕ) → TooLong out next (join piece) out'
+        → TooLong out₀ at (join (over_at q₀)) out'
+    over_full w out' g =
         let after = over_at (advanced_by q t) in
-        fitted_no out₀ at (over_at q₀) out' n m (omega (arith, w.room, w.long, fitted_over out next piece g, ap length (ap join pieces_on ∙ join_append piece after), length-append (join piece) (join after))) (g.long ∙ w.long)
+        record {
+          over = omega (arith, w.room, w.long, g.over, ap length (ap join pieces_on ∙ join_append piece after), length-append (join piece) (join after));
+          long = g.long ∙ w.long;
+        }
 
   -- all is written
   pub over_done : (out₀ : List ℕ) (at : ℕ) (q₀ : Places) (out : List ℕ) (q : Places) (next count : ℕ) → OverWritten out₀ at q₀ out q next count → q.lefts + q.rights ≤ 0
-      → Fitted out₀ at (over_at q₀) out next count true × RunEnds p left list q₀ q.left q.right
+      → Fitted out₀ at (join (over_at q₀)) out next × (count ≡ length (over_at q₀)) × RunEnds p left list q₀ q.left q.right
   over_done out₀ at q₀ out q next count w h =
       let n : q.lefts ≡ 0 = omega arith in
       let m : q.rights ≡ 0 = omega arith in
       let none : over_at q ≡ [] = ap (λ (k : ℕ). over_run p k (drop q.left left) q.rights (drop q.right list)) n ∙ ap (λ (k : ℕ). over_run p 0 (drop q.left left) k (drop q.right list)) m ∙ over_none p (drop q.left left) (drop q.right list) in
       let zero_long = none_length (over_at q) none in (
-        fitted_yes out₀ at (over_at q₀) out next count (omega (arith, w.room, w.within, w.long)) (omega (arith, w.room)) (omega (arith, w.number, ap length none)) (sym (none_laid (over_at q) none out next) ∙ w.laid),
+        fitted out₀ at (join (over_at q₀)) out next (omega (arith, w.room, w.within, w.long)) (omega (arith, w.room)) (sym (none_laid (over_at q) none out next) ∙ w.laid),
+        omega (arith, w.number, ap length none),
         record {
           at_left = record { within = w.in_left; rest = sym (ap (λ (k : ℕ). after_all p k (drop q.left left)) n ∙ all_none p (drop q.left left)) ∙ w.after_left };
           at_list = record { within = w.in_list; rest = sym (ap (λ (k : ℕ). after_each p k (drop q.right list)) m ∙ each_none p (drop q.right list)) ∙ w.after_list };
