@@ -5,7 +5,6 @@ use mathlib.Core.Bool.{true}
 use mathlib.Core.List.{map}
 use native.Mathlib.Omega.{arith}
 use borrow.Author.Rules.{rules}
-use borrow.Author.Tests.{not-true, not-false}
 use lib.ListN.{length}
 use Rattle.lemmas.specs.Lists.{join}
 use Rattle.model.specs.Snapshot.{write_entry, write_level, entries, section, encode, counters_long}
