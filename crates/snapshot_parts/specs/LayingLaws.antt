@@ -26,10 +26,10 @@ use Rattle.store.specs.StoreLaws as store
 
 -- ---- a part of the output
 
--- a part of the output written anew is its bytes written over the output there
-pub part_put : (a k : ℕ) (d s : List ℕ) → length s ≡ k → put_mid a k d s ≡ put d a s
+-- a part of a list written anew is its items written over the list there
+pub part_put : {A : Type 0} (a k : ℕ) (d s : List A) → length s ≡ k → put_mid a k d s ≡ put d a s
 unfolding put
-part_put a k d s h = rw h (ap (λ (z : List ℕ). take a d ++ (s ++ z)) (drop-drop k a d))
+part_put {A} a k d s h = rw h (ap (λ (z : List A). take a d ++ (s ++ z)) (drop-drop k a d))
 
 -- one byte of a number is written: writing the bytes that are left gives the same as before
 pub number_turn : (out : List ℕ) (w i y : ℕ) → i < w → i < length out → put (set out i (y % 256)) (i + 1) (bytes (w - (i + 1)) (y / 256)) ≡ put out i (bytes (w - i) y)
