@@ -1,9 +1,9 @@
 -- Laws of pieces that are written as far as the output has room. Assumes nothing.
-use Rattle.std.specs.Prelude.{ℕ, ◌+◌, ◌≤◌, ◌<◌, ◌≡◌, refl, Bool, true, false, List, [], ◌∷◌, ◌++◌, leb, length}
-use Rattle.std.proofs.Common.{sym, ap, ◌∙◌, subst, append-nil, arith, le-leb, leb-true, leb-false, length-append}
+use Rattle.std.specs.Prelude.{ℕ, ◌+◌, ◌≤◌, ◌<◌, ◌≡◌, refl, Bool, true, false, List, [], ◌∷◌, leb, length}
+use Rattle.std.proofs.Common.{sym, ap, ◌∙◌, append-nil, arith, le-leb, leb-true, leb-false}
 use Rattle.lemmas.specs.Order.{clash}
 use Rattle.lemmas.specs.Lists.{join}
-use Rattle.lemmas.specs.Slices.{put, put_nil, put_append, length_put, join_append}
+use Rattle.lemmas.specs.Slices.{put, length_put}
 use Rattle.patch_scan.specs.Over.{Fitted}
 
 -- a piece is as long as its bytes

@@ -1,5 +1,5 @@
 -- Laws of a list laid over a snapshot turn by turn. Assumes nothing.
-use Rattle.std.specs.Prelude.{ℕ, zero, suc, ◌+◌, ◌-◌, ◌≤◌, ◌<◌, ◌≡◌, Bool, cond, List, [], ◌∷◌, ◌++◌, map, eqb, ltb, length, take, drop}
+use Rattle.std.specs.Prelude.{ℕ, zero, suc, ◌+◌, ◌-◌, ◌≤◌, ◌<◌, ◌≡◌, Bool, cond, List, [], ◌∷◌, ◌++◌, eqb, length, take, drop}
 use Rattle.std.proofs.Math.Path.{refl}
 use Rattle.std.proofs.Common.{sym, ap, ◌∙◌, length-drop, take_all, take-take}
 use Rattle.std.proofs.Math.Bool.{true, false}
@@ -11,8 +11,8 @@ use Rattle.lemmas.specs.Lists.{join}
 use Rattle.lemmas.specs.Little.{number}
 use Rattle.lemmas.specs.Slices.{take_drop}
 use Rattle.lemmas.specs.Compare.{overlay_one, overlay}
-use Rattle.model.specs.DifferenceBytes.{left_kind, right_kind, changed_kind, head_long}
-use Rattle.snapshot_parse.specs.Parsing.{number_in, after_key, key_length, after_file, after_entry, parts_in, after_parts}
+use Rattle.model.specs.DifferenceBytes.{left_kind, right_kind, changed_kind}
+use Rattle.snapshot_parse.specs.Parsing.{number_in, after_file, parts_in, after_parts}
 use Rattle.difference_scan.specs.Scan.{after_part, part_bytes, rise_long, rise_of, parts_at, after_all, goes_first, kind_by}
 use Rattle.difference_scan.specs.Turns.{left_over, bytes_after}
 use Rattle.difference_scan.specs.TurnLaws.{after_short, part_rise, parts_first, all_first, parts_none, first_says, both_there}

@@ -12,7 +12,7 @@ use Rattle.lemmas.specs.Slices.{put, put_append, join_append}
 use Rattle.model.specs.Snapshot.{byte_long}
 use Rattle.model.specs.DifferenceBytes.{left_kind, right_kind, head_long}
 use Rattle.snapshot_parse.specs.Parsing.{At, number_in}
-use Rattle.difference_scan.specs.Scan.{after_part, part_bytes, after_all}
+use Rattle.difference_scan.specs.Scan.{after_part, after_all}
 use Rattle.difference_scan.specs.ScanLaws.{cut_lent, part_lent}
 use Rattle.difference_scan.specs.Turns.{left_over, place_after, bytes_after}
 use Rattle.difference_scan.specs.TurnLaws.{place_after_lem, over_less, all_none}
