@@ -88,6 +88,7 @@ pub fn lay_over(
     let mut p = from;
     let mut next = at;
     let mut count: usize = 0;
+    // A merge: a turn passes by a part of the left, of the list, or of both.
     while 0 < p.lefts + p.rights {
         let t = patch_scan::next_over(left, list, p, pointer);
         let a = p.left;
@@ -171,8 +172,7 @@ fn lay_levels(
     let mut list_at = b;
     let mut rest = m;
     let mut next = at;
-    let mut level: usize = 0;
-    while level < Level::COUNT {
+    for level in 0..Level::COUNT {
         let n = snapshot_parse::get_number(left, left_at, Snapshot::COUNT);
         let start = snapshot_parse::after(left, left_at, Snapshot::COUNT);
         let r = patch_scan::run_long(list, list_at, rest, level);
@@ -194,7 +194,6 @@ fn lay_levels(
         list_at = made.list;
         next = made.next;
         rest -= r;
-        level += 1;
     }
     Piece {
         next: next,
@@ -231,8 +230,7 @@ fn lay_counters(left: &[u8], list: &[u8], b: usize, out: &mut [u8], at: usize) -
     let mut rest = snapshot_parse::get_number(list, b, Snapshot::COUNT);
     let mut list_at = snapshot_parse::after(list, b, Snapshot::COUNT);
     let mut next = at + Snapshot::COUNT;
-    let mut i: usize = 0;
-    while i < Snapshot::FIVE {
+    for i in 0..Snapshot::FIVE {
         let place = snapshot_parse::get_number(list, list_at, Snapshot::BYTE);
         let named = 0 < rest && place == i as u64;
         let y = snapshot_parse::after(list, list_at, Snapshot::BYTE);
@@ -252,7 +250,6 @@ fn lay_counters(left: &[u8], list: &[u8], b: usize, out: &mut [u8], at: usize) -
             rest -= 1;
             list_at = y_end;
         }
-        i += 1;
     }
     Piece {
         next: next,

@@ -1,12 +1,9 @@
 -- `put_over` meets its contract. Assumes nothing.
 use Prim.Native.Nat.{ℕ}
-use mathlib.Core.Path.{◌≡◌, sym, ap, ◌∙◌, subst}
-use mathlib.Core.Bool.{Bool}
-use mathlib.Core.List.{List}
+use mathlib.Core.Path.{sym, ap, ◌∙◌}
 use borrow.Author.Rules.{rules}
 use lib.ListN.{length}
 use Prim.Native.Nat.{min}
-use Rattle.patch_scan.specs.Over.{Fitted}
 use Rattle.patch_over.specs.PieceLaws.{nothing_fits, left_piece, bare_piece, brought_piece}
 use Rattle.patch_over.proofs.put_over.Statement.{statement}
 use Rattle.patch_over.proofs.put_over.Tie as tie
