@@ -82,6 +82,7 @@ fn lay_run(
     let mut p = from;
     let mut next = at;
     let mut listed: usize = 0;
+    // A merge: a turn passes by a part of the left, of the right, or of both.
     while 0 < p.lefts + p.rights {
         let t = difference_scan::next_turn(left, right, p, pointer);
         let a = p.left;
@@ -136,8 +137,7 @@ fn lay_levels(left: &[u8], a: usize, right: &[u8], b: usize, out: &mut [u8], at:
         next: at,
         listed: 0,
     };
-    let mut level: usize = 0;
-    while level < Level::COUNT {
+    for level in 0..Level::COUNT {
         let from = runs_at(left, here.left, right, here.right);
         let made = lay_run(left, right, from, false, level, out, here.next);
         here = Laid {
@@ -146,7 +146,6 @@ fn lay_levels(left: &[u8], a: usize, right: &[u8], b: usize, out: &mut [u8], at:
             next: made.next,
             listed: here.listed + made.listed,
         };
-        level += 1;
     }
     here
 }
@@ -180,11 +179,10 @@ pub fn levels_at(src: &[u8]) -> usize
     ensures { At src.now result (levels_at src.now) }
 {
     let at = snapshot_parse::after(src, 0, Snapshot::COUNTERS);
-    let mut n = snapshot_parse::get_number(src, at, Snapshot::COUNT);
+    let n = snapshot_parse::get_number(src, at, Snapshot::COUNT);
     let mut next = snapshot_parse::after(src, at, Snapshot::COUNT);
-    while 0 < n {
+    for _ in 0..n {
         next = difference_scan::part_end(src, next, true);
-        n -= 1;
     }
     next
 }
@@ -208,8 +206,7 @@ fn lay_counters(left: &[u8], right: &[u8], out: &mut [u8], at: usize) -> usize
 {
     let mut next = at + Snapshot::COUNT;
     let mut listed: usize = 0;
-    let mut i: usize = 0;
-    while i < Snapshot::FIVE {
+    for i in 0..Snapshot::FIVE {
         let a = snapshot_parse::after(left, 0, Snapshot::NEXT + i * Snapshot::NUMBER);
         let a_end = snapshot_parse::after(left, a, Snapshot::NUMBER);
         let b = snapshot_parse::after(right, 0, Snapshot::NEXT + i * Snapshot::NUMBER);
@@ -219,7 +216,6 @@ fn lay_counters(left: &[u8], right: &[u8], out: &mut [u8], at: usize) -> usize
         if !same {
             listed += 1;
         }
-        i += 1;
     }
     snapshot_parts::put_number(out, at, Snapshot::COUNT, listed as u64);
     next

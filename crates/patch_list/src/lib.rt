@@ -220,14 +220,14 @@ fn section_at(src: &[u8], at: usize, section: u8) -> Checked
             right: false,
         };
     }
-    let mut n = snapshot_parse::get_number(src, at, Snapshot::COUNT);
+    let n = snapshot_parse::get_number(src, at, Snapshot::COUNT);
     let mut last = Entry {
         next: at + Snapshot::COUNT,
         level: 0,
         number: 0,
         right: false,
     };
-    while 0 < n {
+    for _ in 0..n {
         let e = entry_at(src, last.next, section);
         if !follows(last, e) {
             return Checked {
@@ -236,7 +236,6 @@ fn section_at(src: &[u8], at: usize, section: u8) -> Checked
             };
         }
         last = e;
-        n -= 1;
     }
     Checked {
         next: last.next,

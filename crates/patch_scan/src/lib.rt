@@ -92,15 +92,13 @@ pub fn run_long(list: &[u8], at: usize, n: usize, level: usize) -> usize
     ensures { result ≡ run_long level n (drop at list.now) }
 {
     let mut next = at;
-    let mut i: usize = 0;
-    while i < n {
+    for i in 0..n {
         let level_at = snapshot_parse::after(list, next, Snapshot::BYTE);
         let here = snapshot_parse::get_number(list, level_at, Snapshot::BYTE);
         if here != level as u64 {
             return i;
         }
         next = listed_end(list, next, false);
-        i += 1;
     }
     n
 }
@@ -110,11 +108,10 @@ pub fn section_end(list: &[u8], at: usize, pointer: bool) -> usize
     requires { at ≤ length list.now }
     ensures { At list.now result (after_each pointer (number_in count_long (drop at list.now)) (drop count_long (drop at list.now))) }
 {
-    let mut n = snapshot_parse::get_number(list, at, Snapshot::COUNT);
+    let n = snapshot_parse::get_number(list, at, Snapshot::COUNT);
     let mut next = snapshot_parse::after(list, at, Snapshot::COUNT);
-    while 0 < n {
+    for _ in 0..n {
         next = listed_end(list, next, pointer);
-        n -= 1;
     }
     next
 }

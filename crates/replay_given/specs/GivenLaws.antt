@@ -1,5 +1,5 @@
 -- Laws of answers in bytes: what each writes, how long it is, and its parts laid one after another. Assumes nothing.
-use Rattle.std.specs.Prelude.{ℕ, ◌+◌, ◌*◌, ◌≤◌, ◌<◌, ◌≡◌, refl, true, false, not, ◌&&◌, List, [], ◌∷◌, ◌++◌, map, T, Float, length, get_or, take, drop}
+use Rattle.std.specs.Prelude.{ℕ, ◌+◌, ◌-◌, ◌*◌, ◌≤◌, ◌<◌, ◌≡◌, refl, true, false, not, ◌&&◌, List, [], ◌∷◌, ◌++◌, map, T, Float, length, get_or, take, drop}
 use Rattle.std.proofs.Math.Path.{sym, ap}
 use Rattle.std.proofs.Common.{◌∙◌, append_assoc, append-nil, mul-le-mul_right, arith, eq-eqb, length-append, length-take-le, get_or-take}
 use Rattle.std.proofs.lemmas.List.{map-append}
@@ -10,9 +10,9 @@ use Rattle.std.proofs.Math.Seq.{slice}
 use Rattle.lemmas.specs.Lists.{all, join, sum}
 use Rattle.lemmas.specs.ListLaws.{and_left, and_right, all_in, joined_most}
 use Rattle.lemmas.specs.Little.{bytes, bytes_length}
-use Rattle.lemmas.specs.Slices.{put, length_view, join_append}
+use Rattle.lemmas.specs.Slices.{put, sum_turn, rest_cons, take_drop, length_view, join_append}
 use Rattle.lemmas.specs.Merge.{all_at}
-use Rattle.lemmas.specs.Laying.{put_next}
+use Rattle.lemmas.specs.Laying.{put_next, part_length}
 use Rattle.model.specs.Answer.{gives, refused}
 use Rattle.model.specs.File.{File, full, in_order, levelwise, good_file, max_files, key_room}
 use Rattle.model.specs.Pick.{good_picked}
@@ -305,3 +305,41 @@ pub list_laid : (files : List FileRecord) (from n : ℕ) (out o₁ o₂ : List �
 list_laid files from n out o₁ o₂ at k h e₁ e₂ =
     let size : n ≡ length (map file_of (slice from (from + n) files)) = omega (arith, length_view file_of from (from + n) files k) in
     section_laid write_file (map file_of (slice from (from + n) files)) out o₁ o₂ at h (e₁ ∙ ap (λ (m : ℕ). put out at (bytes count_long m)) size) e₂
+
+-- a list of a picked answer, whose files start where those of the list before it end
+module _ (c : Picked) (from l : ℕ) (h : l < 3) where
+  -- its files have room, and the next list's start where they end
+  pub list_room : well_picked c ≡ true → from + sum (drop l (counted c)) ≡ sum (counted c)
+      → (from + get_or (counted c) l 0 ≤ c.first + c.second + c.grand) × (c.first + c.second + c.grand ≤ max_files) × (from + get_or (counted c) l 0 + sum (drop (l + 1) (counted c)) ≡ sum (counted c))
+  list_room w e =
+      let turn = sum_turn (counted c) l h in
+      (omega (arith, counted_sum c), well_room c w, omega arith)
+
+  -- its bytes with those of the lists after it are those of all that are left; it takes two bytes and those of its files
+  pub list_long : (length (join (lists_from c.files (counted c) from l)) ≡ length (list_at c.files from (from + get_or (counted c) l 0)) + length (join (lists_from c.files (counted c) (from + get_or (counted c) l 0) (l + 1))))
+      × (length (list_at c.files from (from + get_or (counted c) l 0)) ≡ 2 + length (join (files_from c.files from (from + get_or (counted c) l 0))))
+  list_long =
+      let to = from + get_or (counted c) l 0 in (
+        part_length (list_at c.files from to) (lists_from c.files (counted c) to (l + 1)) (lists_from c.files (counted c) from l) (lists_turn c.files (counted c) l from h),
+        section_length write_file (map file_of (slice from to c.files)),
+      )
+
+-- the bytes of these files
+abbrev pub files_of : List FileRecord → List (List ℕ)
+files_of fs = map write_file (map file_of fs)
+
+module _ (files : List FileRecord) (from n : ℕ) where
+  -- those of a part of the array are those of a run
+  pub files_part : files_of (take (from + n - from) (drop from files)) ≡ files_from files from (from + n)
+  files_part =
+      let size : from + n - from ≡ n = omega arith in
+      rw size (ap files_of (take_drop from n files))
+
+-- the bytes of the first of these files, then those of the others
+module _ (fs : List FileRecord) (j : ℕ) (h : j < length fs) where
+  pub file_first : files_of (drop j fs) ≡ write_file (file_of (get_or fs j past)) ∷ files_of (drop (j + 1) fs)
+  file_first = ap files_of (rest_cons fs j past h)
+
+  -- their lengths
+  pub file_first_long : length (join (files_of (drop j fs))) ≡ length (write_file (file_of (get_or fs j past))) + length (join (files_of (drop (j + 1) fs)))
+  file_first_long = part_length (write_file (file_of (get_or fs j past))) (files_of (drop (j + 1) fs)) (files_of (drop j fs)) file_first

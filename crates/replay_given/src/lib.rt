@@ -132,18 +132,14 @@ fn put_lists(out: &mut [u8], at: usize, c: Picked) -> usize
     let counts = [c.first, c.second, c.grand];
     let mut next = at;
     let mut from: usize = 0;
-    let mut list: usize = 0;
-    while list < 3 {
-        let n = counts[list];
+    for &n in &counts {
         snapshot_parts::put_number(out, next, Snapshot::COUNT, n as u64);
         next += Snapshot::COUNT;
         let to = from + n;
-        while from < to {
-            let f = c.files[from];
-            next = snapshot_parts::put_file(out, next, f);
-            from += 1;
+        for f in &c.files[from..to] {
+            next = snapshot_parts::put_file(out, next, *f);
         }
-        list += 1;
+        from = to;
     }
     next
 }

@@ -57,14 +57,12 @@ fn pass_keys(src: &[u8], at: usize, keys: usize) -> Passed
     ensures { (result ≡ passed_by at (repeated keys key_takes (drop at src.now))) × (result.at ≤ length src.now) }
 {
     let mut next = at;
-    let mut i: usize = 0;
-    while i < keys {
+    for _ in 0..keys {
         let p = pass_key(src, next);
         if !p.good {
             return p;
         }
         next = p.at;
-        i += 1;
     }
     Passed {
         good: true,
@@ -90,14 +88,12 @@ fn pass_parts(src: &[u8], at: usize, n: usize, width: usize, keys: usize) -> Pas
     ensures { (result ≡ passed_by at (repeated n (part_takes width keys) (drop at src.now))) × (result.at ≤ length src.now) }
 {
     let mut next = at;
-    let mut i: usize = 0;
-    while i < n {
+    for _ in 0..n {
         let p = pass_part(src, next, width, keys);
         if !p.good {
             return p;
         }
         next = p.at;
-        i += 1;
     }
     Passed {
         good: true,
@@ -288,14 +284,12 @@ fn pass_entries(src: &[u8], at: usize, n: usize) -> Passed
     ensures { (result ≡ passed_by at (repeated n entry_takes (drop at src.now))) × (result.at ≤ length src.now) }
 {
     let mut next = at;
-    let mut i: usize = 0;
-    while i < n {
+    for _ in 0..n {
         let p = pass_entry(src, next);
         if !p.good {
             return p;
         }
         next = p.at;
-        i += 1;
     }
     Passed {
         good: true,

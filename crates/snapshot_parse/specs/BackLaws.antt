@@ -14,7 +14,7 @@ use Rattle.lemmas.specs.Lists.{sort, join, up_from}
 use Rattle.lemmas.specs.ListLaws.{sort_in, sort_length}
 use Rattle.lemmas.specs.Little.{number, bytes, bytes_length, bytes_number}
 use Rattle.lemmas.specs.Laying.{map_places}
-use Rattle.model.specs.File.{File, State, full, level, good_pointer, max_counter, max_size, key_room, level_count, max_files}
+use Rattle.model.specs.File.{File, State, full, level, good_pointer, key_room, level_count, max_files}
 use Rattle.model.proofs.Formed.{WF}
 use Rattle.model.specs.Snapshot.{by_number, write_key, write_file, Entry, entries, write_entry, section, write_level, five_of, encode, placed, counters_long, byte_long, count_long, number_long}
 use Rattle.model.proofs.SnapshotLaws.{entries_few, entries_among, file_facts}

@@ -1,11 +1,16 @@
 -- Laws of the parts of a snapshot in lent bytes: what each function writes, and how long it is. Assumes nothing.
-use Rattle.std.specs.Prelude.{ℕ, ◌+◌, ◌≤◌, ◌<◌, ◌≡◌, true, false, ◌&&◌, ◌||◌, List, [], ◌∷◌, ◌++◌, map, eqb, leb, length, get_or, drop}
-use Rattle.std.proofs.Common.{ap, ◌∙◌, append_assoc, append-nil, arith, add-one, leb-true, length-append, drop_of_length-le, length-take-le}
+use Rattle.std.specs.Prelude.{ℕ, suc, ◌+◌, ◌-◌, ◌/◌, ◌%◌, ◌≤◌, ◌<◌, ◌≡◌, Bool, cond, true, false, ◌&&◌, ◌||◌, List, [], ◌∷◌, ◌++◌, map, eqb, leb, length, get_or, set, drop}
+use Rattle.std.proofs.Common.{refl, sym, ap, ◌∙◌, append_assoc, append-nil, arith, add-one, zero-add, leb-true, length-append, take, drop_of_length-le, length-take-le}
+use Rattle.std.proofs.lemmas.List.{drop-drop}
+use Rattle.std.specs.List.{count_by}
+use Rattle.std.proofs.lemmas.List.Sums.{sum_by-cons}
+use borrow.Rule.Slice.PartMut.{put_mid}
+use Rattle.std.proofs.Math.Option.{none, some}
 use Rattle.lemmas.specs.Lists.{all, join}
 use Rattle.lemmas.specs.ListLaws.{and_left}
-use Rattle.lemmas.specs.Little.{bytes, bytes_length}
-use Rattle.lemmas.specs.Slices.{put, rest_cons}
-use Rattle.lemmas.specs.Laying.{put_next}
+use Rattle.lemmas.specs.Little.{bytes, bytes_length, bytes_turn, bytes_end}
+use Rattle.lemmas.specs.Slices.{put, put_whole, rest_cons}
+use Rattle.lemmas.specs.Laying.{put_next, part_length}
 use Rattle.model.specs.File.{File, full, good_pointer, key_room}
 use Rattle.model.specs.Snapshot.{write_key, write_file, Entry, entries, write_entry, section, counters_long, byte_long, count_long, number_long}
 use Rattle.model.proofs.SnapshotLaws.{write_key_length, write_file_length, write_entry_length}
@@ -18,6 +23,21 @@ use Rattle.records.specs.RecordLaws as records
 use Rattle.store.specs.declared.Pointer.{Pointer}
 use Rattle.store.specs.Store.{pointer_of, sound_pointer, well_pointer}
 use Rattle.store.specs.StoreLaws as store
+
+-- ---- a part of the output
+
+-- a part of a list written anew is its items written over the list there
+pub part_put : {A : Type 0} (a k : ℕ) (d s : List A) → length s ≡ k → put_mid a k d s ≡ put d a s
+unfolding put
+part_put {A} a k d s h = rw h (ap (λ (z : List A). take a d ++ (s ++ z)) (drop-drop k a d))
+
+-- one byte of a number is written: writing the bytes that are left gives the same as before
+pub number_turn : (out : List ℕ) (w i y : ℕ) → i < w → i < length out → put (set out i (y % 256)) (i + 1) (bytes (w - (i + 1)) (y / 256)) ≡ put out i (bytes (w - i) y)
+number_turn out w i y h k = simp zero-add at (bytes_turn out 0 w i y h (omega arith))
+
+-- all w bytes of a number written over as many: they are its bytes
+pub number_laid : (d out : List ℕ) (w i x y : ℕ) → length d ≡ w → w ≤ i → put out i (bytes (w - i) y) ≡ put d 0 (bytes w x) → out ≡ bytes w x
+number_laid d out w i x y h k e = sym (simp zero-add at (bytes_end out 0 w i y k)) ∙ e ∙ put_whole d (bytes w x) (bytes_length w x ∙ sym h)
 
 -- ---- keys
 
@@ -119,6 +139,19 @@ section_laid w xs out o₁ o₂ at h e₁ e₂ =
     let both_parts = length-append (bytes count_long (length xs)) (join (map w xs)) in
     put_next out o₁ o₂ at (at + 2) (bytes count_long (length xs)) (join (map w xs)) (omega arith) e₁ (omega arith) e₂
 
+-- as many are listed as are set
+pub set_count : (i : ℕ) (ps : List Pointer) → length (entries i (map pointer_of ps)) ≡ count_by (λ p. p.set) ps
+unfolding entries pointer_of
+set_count i [] = refl
+set_count i (p ∷ ps) = go p.set (set_count (suc i) ps) ∙ sym (sum_by-cons (λ (q : Pointer). cond q.set 1 0) p ps)
+  where
+    n : ℕ
+    n = count_by (λ p. p.set) ps
+
+    go : (t : Bool) → length (entries (suc i) (map pointer_of ps)) ≡ n → length (entries i (cond t (some (key_of p.key)) none ∷ map pointer_of ps)) ≡ cond t 1 0 + n
+    go true h = omega arith
+    go false h = omega arith
+
 -- the pointers that are set, from level i on
 abbrev pub set_from : ℕ → List Pointer → List Entry
 set_from i ps = entries i (map pointer_of (drop i ps))
@@ -128,6 +161,14 @@ module _ (ps : List Pointer) (i : ℕ) where
   pub set_here : i < length ps → (get_or ps i store.past).set ≡ true → set_from i ps ≡ record { level = i; key = key_of (get_or ps i store.past).key } ∷ set_from (i + 1) ps
   unfolding entries pointer_of
   set_here h t = rw (rest_cons ps i store.past h, t, add-one)
+
+  -- its bytes and those of the others are those that are left to write
+  pub length_here : i < length ps → (get_or ps i store.past).set ≡ true
+      → length (join (map write_entry (set_from i ps))) ≡ 1 + length (write_key (key_of (get_or ps i store.past).key)) + length (join (map write_entry (set_from (i + 1) ps)))
+  length_here h t =
+      let e : Entry = record { level = i; key = key_of (get_or ps i store.past).key } in
+      let others = map write_entry (set_from (i + 1) ps) in
+      omega (arith, part_length (write_entry e) others (map write_entry (set_from i ps)) (ap (map write_entry) (set_here h t)), write_entry_parts e)
 
   -- it is not: the others are left
   pub set_later : i < length ps → (get_or ps i store.past).set ≡ false → set_from i ps ≡ set_from (i + 1) ps

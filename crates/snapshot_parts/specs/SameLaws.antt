@@ -1,6 +1,7 @@
 -- Laws of comparing two lists of bytes, as a loop does it. Assumes nothing.
-use Rattle.std.specs.Prelude.{ℕ, ◌+◌, ◌≤◌, ◌<◌, ◌≡◌, refl, Bool, true, false, List, length, get_or, drop}
+use Rattle.std.specs.Prelude.{ℕ, ◌+◌, ◌≤◌, ◌<◌, ◌≡◌, refl, Bool, true, false, ◌&&◌, eqb, List, [], ◌∷◌, length, get_or, drop}
 use Rattle.std.proofs.Common.{ap}
+use Rattle.std.specs.Cmp.Lexicographic.{pointwise}
 use borrow.Author.Tests.{eq-eqb, ne_eqb}
 use Rattle.std.proofs.Math.ListN.{drop_of_length-le}
 use Rattle.lemmas.specs.Slices.{rest_cons}
@@ -32,3 +33,11 @@ module _ (a b : List ℕ) (i : ℕ) where
   pub bytes_over : length a ≤ i → length b ≤ i → same_bytes (drop i a) (drop i b) ≡ true
   unfolding same_bytes
   bytes_over h k = rw (drop_of_length-le a h, drop_of_length-le b k)
+
+-- the library's comparison is that of the model
+pub same_is : (a b : List ℕ) → pointwise eqb a b ≡ same_bytes a b
+unfolding same_bytes
+same_is [] [] = refl
+same_is [] (y ∷ ys) = refl
+same_is (x ∷ xs) [] = refl
+same_is (x ∷ xs) (y ∷ ys) = ap (λ (t : Bool). eqb x y && t) (same_is xs ys)

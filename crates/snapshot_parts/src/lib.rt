@@ -60,17 +60,7 @@ impl Snapshot {
 pub fn same(a: &[u8], b: &[u8]) -> bool
     ensures { result ≡ same_bytes a.now b.now }
 {
-    if a.len() != b.len() {
-        return false;
-    }
-    let mut i: usize = 0;
-    while i < a.len() {
-        if a[i] != b[i] {
-            return false;
-        }
-        i += 1;
-    }
-    true
+    a == b
 }
 
 // Writes bytes. Returns the place after them. Internal. Requires: the output has these places.
@@ -78,13 +68,9 @@ pub fn put_bytes(out: &mut [u8], at: usize, src: &[u8]) -> usize
     requires { at + length src.now ≤ length out.old }
     ensures { (result ≡ at + length src.now) × (out.new ≡ put out.old at src.now) }
 {
-    let n = src.len();
-    let mut i: usize = 0;
-    while i < n {
-        out[at + i] = src[i];
-        i += 1;
-    }
-    at + n
+    let end = at + src.len();
+    out[at..end].copy_from_slice(src);
+    end
 }
 
 // Writes the lowest `width` bytes of a number, the lowest first. Internal. Requires: the output has these places.
@@ -92,12 +78,10 @@ pub fn put_number(out: &mut [u8], at: usize, width: usize, x: u64)
     requires { at + width ≤ length out.old }
     ensures { out.new ≡ put out.old at (bytes width x) }
 {
-    let mut j: usize = 0;
     let mut y = x;
-    while j < width {
-        out[at + j] = (y % 256) as u8;
-        y = y / 256;
-        j += 1;
+    for b in &mut out[at..at + width] {
+        *b = (y % 256) as u8;
+        y /= 256;
     }
 }
 
@@ -108,13 +92,7 @@ pub fn put_key(out: &mut [u8], at: usize, k: Key) -> usize
 {
     let n = k.len;
     put_number(out, at, Snapshot::BYTE, n as u64);
-    let start = at + Snapshot::BYTE;
-    let mut i: usize = 0;
-    while i < n {
-        out[start + i] = k.bytes[i];
-        i += 1;
-    }
-    start + n
+    put_bytes(out, at + Snapshot::BYTE, &k.bytes[..n])
 }
 
 // Writes a file: number, size, smallest and largest key. Returns the place after it. Internal. Requires: the record is well-formed, and the output has these places.
@@ -146,15 +124,7 @@ pub fn put_counters(out: &mut [u8], at: usize, c: Counters) -> usize
 pub fn count_pointers(pointers: [Pointer; Level::COUNT]) -> usize
     ensures { result ≡ length (entries 0 (map pointer_of pointers)) }
 {
-    let mut n: usize = 0;
-    let mut i: usize = 0;
-    while i < Level::COUNT {
-        if pointers[i].set {
-            n += 1;
-        }
-        i += 1;
-    }
-    n
+    pointers.iter().filter(|p| p.set).count()
 }
 
 // Writes the section of the pointers, by rising level. Returns the place after it. Internal. Requires: the pointers are well-formed, and the output has these
@@ -166,14 +136,11 @@ pub fn put_pointers(out: &mut [u8], at: usize, pointers: [Pointer; Level::COUNT]
     let n = count_pointers(pointers);
     put_number(out, at, Snapshot::COUNT, n as u64);
     let mut next = at + Snapshot::COUNT;
-    let mut level = 0;
-    while level < Level::COUNT {
-        let p = pointers[level];
+    for (level, p) in pointers.iter().enumerate() {
         if p.set {
             put_number(out, next, Snapshot::BYTE, level as u64);
             next = put_key(out, next + Snapshot::BYTE, p.key);
         }
-        level += 1;
     }
     next
 }

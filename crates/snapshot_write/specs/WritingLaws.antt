@@ -1,47 +1,80 @@
 -- Laws of snapshots in lent bytes: the lengths of levels and stores, and the snapshot of a well-formed store. Assumes nothing.
 use Prim.Native.Nat.{ℕ, ◌-◌, ◌+◌, ◌*◌, ◌≤◌, ◌<◌, min}
-use Rattle.std.specs.Prelude.{◌≡◌, refl, true, false, ◌&&◌, take, drop, Ok, Err}
+use Rattle.std.specs.Prelude.{◌≡◌, refl, true, false, ◌&&◌, take, drop, Ok, Err, replicate}
 use Rattle.std.proofs.Math.Path.{sym, ap}
 use Rattle.std.proofs.Common.{◌∙◌, length-take-le, take_all, get_or-take, take_at}
 use mathlib.Core.List.{List, [], ◌∷◌, ◌++◌, map, map-append, map-map, Memᴰ as In}
 use native.Mathlib.Omega.{arith}
 use borrow.Author.Tests.{lt-ltb, le-ltb}
-use Rattle.std.proofs.Math.ListN.{length, get_or, length-append, length-map, get_or-map}
+use Rattle.std.proofs.Math.ListN.{length, length-replicate, get_or, length-append, length-map, get_or-map}
 use Rattle.std.proofs.Math.Seq.{slice}
 use Rattle.lemmas.specs.Lists.{all, sort, join, sum, up_from}
 use Rattle.lemmas.specs.ListLaws.{and_left, and_right, both, sort_in, sort_length, get_or_in, up_from_in}
 use Rattle.lemmas.specs.Little.{bytes, bytes_length}
-use Rattle.lemmas.specs.Slices.{put, put_whole, put_front, join_append, take_map, drop_map, take_drop, at_view, length_view}
+use Rattle.lemmas.specs.Slices.{put, sum_turn, rest_cons, put_whole, put_front, join_append, take_map, drop_map, take_drop, at_view, length_view}
 use Rattle.lemmas.specs.UpFrom.{up_from_length}
 use Rattle.lemmas.specs.Merge.{all_at, front_laid}
 use Rattle.lemmas.specs.Maps.{map_same_in, sort_same}
-use Rattle.lemmas.specs.Laying.{put_next, sorted_length, sorted_places, map_places}
+use Rattle.model.specs.Calls as calls
+use Rattle.lemmas.specs.Laying.{put_next, sorted_length, sorted_places, map_places, part_length}
 use Rattle.model.specs.Answer.{Answer, gives, refused, first_of, ◌⇒◌, on_answer, lent}
 use Rattle.model.specs.File.{File, State, full, level, numbers, well_formed, good_file, good_counters, level_count, max_files}
-use Rattle.model.specs.Calls as calls
 use Rattle.model.proofs.Formed.{formed_says}
-use Rattle.model.specs.Snapshot.{by_number, write_file, entries, write_entry, section, write_level, five_of, encode, longest_snapshot, counters_long, fresh_long, count_long, number_long}
-use Rattle.model.proofs.SnapshotLaws.{section_length, encode_most}
+use Rattle.model.specs.Snapshot.{by_number, write_file, entries, write_entry, section, write_level, five_of, encode, longest_snapshot, counters_long, fresh_long, count_long, number_long, file_long}
+use Rattle.model.proofs.SnapshotLaws.{section_length, encode_most, write_file_length, write_key_length}
 use Rattle.answers.specs.declared.Refusal.{Refusal}
 use Rattle.answers.specs.Outcome.{number_of, answer_of, filling}
 use Rattle.counters.specs.Counters.{counters_of}
 use Rattle.records.specs.declared.FileRecord.{FileRecord}
-use Rattle.records.specs.Record.{file_of, sound_record, well_record, past}
+use Rattle.records.specs.Record.{file_of, sound_record, well_record, past, Shaped}
 use Rattle.records.specs.RecordLaws as records
 use Rattle.records.specs.Run.{run}
 use Rattle.levels.specs.Levels.{levels_of, well_levels}
 use Rattle.levels.specs.LevelsLaws as levels
 use Rattle.sorting.specs.Sorting.{by_number_at}
+use Rattle.keys.specs.Key.{key_of}
+use Rattle.store.specs.declared.Pointer.{Pointer}
 use Rattle.store.specs.declared.Store.{Store}
-use Rattle.store.specs.Store.{pointer_of, well_pointer, state_of, well_store}
+use Rattle.store.specs.Store.{pointer_of, well_pointer, PointerShaped, state_of, well_store}
 use Rattle.store.specs.StoreLaws as store
 use Rattle.snapshot_write.specs.Writing.{snapshot_of}
+use Rattle.snapshot_parts.specs.LayingLaws.{record_short, key_long, pointer_short, set_from, length_here}
+
+
+-- ---- what is left to count
+
+-- the bytes of a file and of those after it
+pub file_left : (fs : List FileRecord) (i : ℕ) → i < length fs → Shaped (get_or fs i past) → well_record (get_or fs i past) ≡ true
+    → length (join (map write_file (map file_of (drop i fs)))) ≡ file_long + (get_or fs i past).smallest.len + (get_or fs i past).largest.len + length (join (map write_file (map file_of (drop (i + 1) fs))))
+unfolding file_of
+file_left fs i h room well =
+    let r = get_or fs i past in
+    let short = record_short r well in
+    let here = ap (λ (rs : List FileRecord). map write_file (map file_of rs)) (rest_cons fs i past h) in
+    omega (
+      arith,
+      part_length (write_file (file_of r)) (map write_file (map file_of (drop (i + 1) fs))) (map write_file (map file_of (drop i fs))) here,
+      write_file_length (file_of r),
+      key_long r.smallest room.smallest short.0,
+      key_long r.largest room.largest short.1,
+    )
+
+-- the bytes of a pointer that is set and of those after it
+pub pointer_left : (ps : List Pointer) (i : ℕ) → i < length ps → PointerShaped (get_or ps i store.past) → well_pointer (get_or ps i store.past) ≡ true → (get_or ps i store.past).set ≡ true
+    → length (join (map write_entry (set_from i ps))) ≡ 2 + (get_or ps i store.past).key.len + length (join (map write_entry (set_from (i + 1) ps)))
+pointer_left ps i h room well t =
+    let p = get_or ps i store.past in
+    omega (arith, length_here ps i h t, write_key_length (key_of p.key), key_long p.key room (pointer_short p well))
 
 -- ---- levels
 
 -- the bytes of the files at the places from j up to n. Places count from the start of a run
 abbrev pub at_places : List FileRecord → ℕ → List ℕ → ℕ → ℕ → List (List ℕ)
 at_places files from places j n = map (λ p. write_file (file_of (get_or files (from + p) past))) (slice j n places)
+
+-- the bytes of the files at these places
+abbrev pub files_at : List FileRecord → ℕ → List ℕ → List (List ℕ)
+files_at files from places = map (λ p. write_file (file_of (get_or files (from + p) past))) places
 
 -- the bytes of the levels from l on, whose files start at a place
 abbrev pub levels_from : List FileRecord → List ℕ → ℕ → ℕ → List (List ℕ)
@@ -158,6 +191,64 @@ level_record files counts i q h k =
     let room = ((levels.well_says files counts).0 h).sound.room in
     ap well_record (sym (get_or-take n files i past k))
     ∙ all_at well_record (take n files) i past (levels_records files counts q h) (omega (arith, length-take-le n files (omega arith)))
+
+-- a level of well-formed levels, whose files start where those of the levels before it end
+module _ (files : List FileRecord) (counts : List ℕ) (from i : ℕ) (h : i < length counts) where
+  -- its files have room, and the next level's start where they end
+  pub level_room : well_levels files counts ≡ true → from + sum (drop i counts) ≡ sum counts
+      → (from + get_or counts i 0 ≤ sum counts) × (sum counts ≤ max_files) × (from + get_or counts i 0 + sum (drop (i + 1) counts) ≡ sum counts)
+  level_room w e =
+      let turn = sum_turn counts i h in
+      (omega arith, ((levels.well_says files counts).0 w).sound.room, omega arith)
+
+  -- its bytes, then those of the levels after it
+  pub level_first : levels_from files counts from i ≡ write_level (run from (from + get_or counts i 0) files) ∷ levels_from files counts (from + get_or counts i 0) (i + 1)
+  level_first = ap (map write_level) (levels.levels_turn files counts i from h)
+
+  -- their lengths
+  pub level_first_long : length (join (levels_from files counts from i))
+      ≡ length (write_level (run from (from + get_or counts i 0) files)) + length (join (levels_from files counts (from + get_or counts i 0) (i + 1)))
+  level_first_long =
+      let n = get_or counts i 0 in
+      part_length (write_level (run from (from + n) files)) (levels_from files counts (from + n) (i + 1)) (levels_from files counts from i) level_first
+
+-- the places of a run's files by rising number, as they are found in the column of all numbers
+module _ (files : List FileRecord) (column places : List ℕ) (from n : ℕ) (q : length files ≡ max_files) (h : from + n ≤ max_files)
+    (e : column ≡ put (replicate max_files 0) 0 (numbers (run 0 max_files files)))
+    (f : places ≡ put (replicate max_files 0) 0 (sort (by_number_at (take (from + n - from) (drop from column))) (up_from 0 (min max_files (length (take (from + n - from) (drop from column))))))) where
+  -- the numbers in the column are those of the run
+  these : take (from + n - from) (drop from column) ≡ numbers (run from (from + n) files)
+  these =
+      let size : from + n - from ≡ n = omega arith in
+      ap (λ (k : ℕ). take k (drop from column)) size ∙ lent_numbers files (replicate max_files 0) column from n q (length-replicate {A = ℕ} max_files 0) e
+
+  -- the level's bytes: its count, then the files at the places
+  pub level_bytes : write_level (run from (from + n) files) ≡ bytes count_long n ++ join (files_at files from (take n places))
+  level_bytes =
+      level_is files from n (omega arith)
+      ∙ ap (λ (x : List (List ℕ)). bytes count_long n ++ join x) (sym (places_written files from n (omega arith) (take (from + n - from) (drop from column)) these (replicate max_files 0) places (omega arith) f))
+
+  -- their length
+  pub level_bytes_long : length (write_level (run from (from + n) files)) ≡ 2 + length (join (files_at files from (take n places)))
+  level_bytes_long =
+      let x = join (files_at files from (take n places)) in
+      omega (arith, ap length level_bytes, length-append (bytes count_long n) x, bytes_length 2 n)
+
+  -- each place is one of the run
+  pub place_in_run : (j : ℕ) → j < n → get_or (take n places) j 0 < n
+  place_in_run j k = rw (get_or-take n places j 0 k) (place_below files from n (omega arith) (take (from + n - from) (drop from column)) these (replicate max_files 0) places (omega arith) f j k)
+
+-- the files at the places from j on
+module _ (files : List FileRecord) (from : ℕ) (places : List ℕ) (j : ℕ) (h : j < length places) where
+  -- the bytes of the first, then those of the others
+  pub file_first : files_at files from (drop j places) ≡ write_file (file_of (get_or files (from + get_or places j 0) past)) ∷ files_at files from (drop (j + 1) places)
+  file_first = ap (files_at files from) (rest_cons places j 0 h)
+
+  -- their lengths
+  pub file_first_long : length (join (files_at files from (drop j places)))
+      ≡ length (write_file (file_of (get_or files (from + get_or places j 0) past))) + length (join (files_at files from (drop (j + 1) places)))
+  file_first_long =
+      part_length (write_file (file_of (get_or files (from + get_or places j 0) past))) (files_at files from (drop (j + 1) places)) (files_at files from (drop j places)) file_first
 
 -- ---- snapshots
 

@@ -32,22 +32,15 @@ fn put_levels(
     let numbers = records::numbers_of(files, 0, Version::ROOM);
     let mut next = at;
     let mut from: usize = 0;
-    let mut level: usize = 0;
-    while level < Level::COUNT {
-        let n = counts[level];
+    for &n in &counts {
         let to = from + n;
         let places = sorting::by_number(&numbers[from..to]);
         snapshot_parts::put_number(out, next, Snapshot::COUNT, n as u64);
         next = next + Snapshot::COUNT;
-        let mut j: usize = 0;
-        while j < n {
-            let p = places[j];
-            let f = files[from + p];
-            next = snapshot_parts::put_file(out, next, f);
-            j += 1;
+        for p in &places[..n] {
+            next = snapshot_parts::put_file(out, next, files[from + p]);
         }
         from = to;
-        level += 1;
     }
     next
 }
@@ -58,10 +51,8 @@ fn files_length(files: [FileRecord; Version::ROOM], n: usize) -> usize
     ensures { result ≡ length (join (map write_file (map file_of (slice 0 n files)))) }
 {
     let mut sum: usize = 0;
-    let mut i: usize = 0;
-    while i < n {
-        sum += Snapshot::FILE + files[i].smallest.len + files[i].largest.len;
-        i += 1;
+    for f in &files[..n] {
+        sum += Snapshot::FILE + f.smallest.len + f.largest.len;
     }
     sum
 }
@@ -72,12 +63,10 @@ fn pointers_length(pointers: [Pointer; Level::COUNT]) -> usize
     ensures { result ≡ length (join (map write_entry (entries 0 (map pointer_of pointers)))) }
 {
     let mut sum: usize = 0;
-    let mut i: usize = 0;
-    while i < Level::COUNT {
-        if pointers[i].set {
-            sum += Snapshot::POINTER + pointers[i].key.len;
+    for p in &pointers {
+        if p.set {
+            sum += Snapshot::POINTER + p.key.len;
         }
-        i += 1;
     }
     sum
 }

@@ -1,12 +1,10 @@
 -- `lay_files` meets its contract: the entries are written after the place of their count, then the count. Assumes nothing.
 use Prim.Native.Nat.{ℕ, ◌+◌, ◌≤◌}
-use mathlib.Core.Path.{◌≡◌}
 use mathlib.Core.List.{List}
 use native.Mathlib.Omega.{arith}
 use borrow.Author.Rules.{rules}
 use lib.ListN.{length, drop}
 use Rattle.lemmas.specs.Lists.{join}
-use Rattle.lemmas.specs.Slices.{put}
 use Rattle.model.specs.File.{level_count}
 use Rattle.difference_scan.specs.Listing.{level_entries}
 use Rattle.difference_list.specs.SectionLaws.{put_keeps, section_long, front_laid}

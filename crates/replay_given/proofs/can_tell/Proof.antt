@@ -1,7 +1,6 @@
 -- `can_tell` meets its contract. Assumes nothing.
 use mathlib.Core.Path.{sym, ◌∙◌}
 use borrow.Author.Rules.{rules}
-use borrow.Author.Tests.{not-true, not-false}
 use Rattle.replay_given.specs.Given.{can_tell}
 use Rattle.replay_given.proofs.can_tell.Statement.{statement}
 use Rattle.replay_given.proofs.can_tell.Tie as tie

@@ -1,0 +1,20 @@
+-- `pass_keys` meets its contract: each turn passes one of the keys more, or finds that none is there. Assumes nothing.
+use Rattle.std.proofs.Common.{arith}
+use Rattle.model_replay.specs.Takes.{key_takes}
+use Rattle.replay_scan.specs.ScanLaws.{passes, told, parts_begin, parts_turn, parts_stop, parts_over, whole_part}
+use Rattle.replay_scan.proofs.pass_keys.Goals as goal
+
+pub loop-init : goal.loop-init
+loop-init c = parts_begin c.args.src.now c.args.at c.args.keys key_takes (omega arith)
+
+pub pass_key-p-requires : goal.pass_key-p-requires
+pass_key-p-requires c = c.loop.invariant.within
+
+pub returns-then-not-p : goal.returns-then-not-p
+returns-then-not-p c = told (parts_stop c.loop.invariant (omega arith) (passes c.args.src.now c.loop.next key_takes c.pass_key-p.ensures) c.if-not-p.true)
+
+pub loop-preserved : goal.loop-preserved
+loop-preserved c = parts_turn c.loop.invariant (omega arith) (whole_part c.args.src.now c.loop.next key_takes c.pass_key-p.ensures c.if-not-p.false)
+
+pub returns : goal.returns
+returns c = told (parts_over c.loop.invariant (omega arith))
