@@ -114,12 +114,10 @@ fn sequence_of(a: &[u8], n: usize) -> u64
     requires { n ≤ length a.now }
     ensures { result ≡ model.sequence (take n a.now) }
 {
-    let stop = without_trailer(n) + 1;
-    let mut j = n;
-    let mut s: u64 = 0;
-    while stop < j {
-        j -= 1;
-        s = s * 256 + octets::wide(a[j]);
+    let first = octets::lesser(without_trailer(n) + 1, n);
+    let mut s = 0;
+    for b in a[first..n].iter().rev() {
+        s = s * 256 + u64::from(*b);
     }
     s
 }
@@ -148,20 +146,11 @@ pub fn precedes(a: &[u8], m: usize, b: &[u8], n: usize) -> bool
 {
     let x = without_trailer(m);
     let y = without_trailer(n);
-    let both = octets::lesser(x, y);
-    let mut i: usize = 0;
-    while i < both {
-        let u = octets::front(octets::word(a, i), both - i);
-        let v = octets::front(octets::word(b, i), both - i);
-        if u != v {
-            return u < v;
-        }
-        i += 8;
+    match octets::order_of(a, x, b, y) {
+        Order::Less => true,
+        Order::Equal => rank_of(b, n) < rank_of(a, m),
+        Order::Greater => false,
     }
-    if x != y {
-        return x < y;
-    }
-    rank_of(b, n) < rank_of(a, m)
 }
 
 // Whether the first n bytes of a room are a key of right length and type, with zeros past them. Internal. Requires: the room is that of an internal key.
@@ -185,16 +174,8 @@ pub fn is_whole(a: &[u8], n: usize) -> bool
 pub fn copy_into(src: &[u8], out: &mut [u8])
     ensures { out.new ≡ laid src.now out.old }
 {
-    let m = src.len();
-    let n = out.len();
-    let mut i: usize = 0;
-    while i < m {
-        if n <= i {
-            return;
-        }
-        out[i] = src[i];
-        i += 1;
-    }
+    let n = octets::lesser(src.len(), out.len());
+    out[..n].copy_from_slice(&src[..n]);
 }
 
 // The user key of an internal key. Internal.
@@ -319,19 +300,11 @@ pub fn is_sound_user(u: UserKey) -> bool
     octets::zeros_from(&u.bytes, n)
 }
 
-// Whether all bytes of a key's room are 0. There is no early end, so that many bytes are tested at once. Internal.
+// Whether all bytes of a key's room are 0. Many bytes are tested at once. Internal.
 pub fn holds_zeros(k: Key) -> bool
     ensures { result ≡ all is_zero k.bytes }
 {
-    let mut others: u8 = 0;
-    let mut i: usize = 0;
-    while i < Key::ROOM {
-        if k.bytes[i] != 0 {
-            others += 1;
-        }
-        i += 1;
-    }
-    others == 0
+    k.bytes == [0u8; Key::ROOM]
 }
 
 // The key that is kept: the same bytes, zeros past its end.

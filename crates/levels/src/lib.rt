@@ -13,17 +13,10 @@ use records::{FileRecord, Level, Version};
 pub fn counted(counts: [usize; Level::COUNT]) -> usize
     ensures { result ≡ min (sum counts) (max_files + 1) }
 {
-    let mut sum: usize = 0;
-    let mut i: usize = 0;
-    while i < Level::COUNT {
-        let c = counts[i];
-        if Version::ROOM - sum < c {
-            return Version::BEYOND;
-        }
-        sum += c;
-        i += 1;
-    }
-    sum
+    counts
+        .iter()
+        .fold(0usize, |sum, c| sum.saturating_add(*c))
+        .min(Version::BEYOND)
 }
 
 // The result of one look at levels.
@@ -44,13 +37,7 @@ pub fn start_of(counts: [usize; Level::COUNT], level: usize) -> usize
     requires { (level ≤ level_count) × (sum counts ≤ max_files) }
     ensures { result ≡ sum (take level counts) }
 {
-    let mut start: usize = 0;
-    let mut i: usize = 0;
-    while i < level {
-        start += counts[i];
-        i += 1;
-    }
-    start
+    counts[..level].iter().sum()
 }
 
 // Whether g may be the next file after f: at level 0 its smallest key is not before f's, deeper f ends strictly before g begins.
@@ -89,13 +76,12 @@ pub fn survey(files: [FileRecord; Version::ROOM], counts: [usize; Level::COUNT])
     }
     let mut column = [0u64; Version::ROOM];
     let mut sums = [0u64; Level::COUNT];
-    let mut i: usize = 0;
-    let mut level: usize = 0;
-    while level < Level::COUNT {
-        let from = i;
-        let to = i + counts[level];
+    let mut to = 0;
+    for (level, count) in counts.iter().enumerate() {
+        let from = to;
+        to += *count;
         let mut bytes: u64 = 0;
-        while i < to {
+        for i in from..to {
             let f = files[i];
             if !records::is_well_formed(f) {
                 return nothing_seen();
@@ -105,16 +91,11 @@ pub fn survey(files: [FileRecord; Version::ROOM], counts: [usize; Level::COUNT])
             }
             column[i] = f.number.0;
             bytes += f.size;
-            i += 1;
         }
         sums[level] = bytes;
-        level += 1;
     }
-    while i < Version::ROOM {
-        if !records::is_blank(files[i]) {
-            return nothing_seen();
-        }
-        i += 1;
+    if !files[n..].iter().all(|f| records::is_blank(*f)) {
+        return nothing_seen();
     }
     Surveyed {
         numbers: column,

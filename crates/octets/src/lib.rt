@@ -23,27 +23,15 @@ pub fn lesser(m: usize, n: usize) -> usize
     if n < m { n } else { m }
 }
 
-// Four bytes from a place on as one big-endian number. Requires: the list has the four bytes.
-fn half(a: &[u8], at: usize) -> u64
-    requires { at + 4 ≤ length a.now }
-    ensures { (result ≡ big 0 (take 4 (drop at a.now))) × (result < 4294967296) }
-{
-    let mut x: u64 = 0;
-    let mut i: usize = 0;
-    while i < 4 {
-        x = x * 256 + wide(a[at + i]);
-        i += 1;
-    }
-    x
-}
-
-// Eight bytes from a place on as one big-endian number. Read in two halves: the compiler makes one load of each half wherever the function is inlined. Internal.
-// Requires: the list has the eight bytes.
+// Eight bytes from a place on as one big-endian number. Internal. Requires: the list has the eight bytes.
 pub fn word(a: &[u8], at: usize) -> u64
     requires { at + 8 ≤ length a.now }
     ensures { result ≡ big 0 (take 8 (drop at a.now)) }
 {
-    half(a, at) * 4294967296 + half(a, at + 4)
+    match a[at..].first_chunk() {
+        Some(bytes) => u64::from_be_bytes(*bytes),
+        None => unreachable!(),
+    }
 }
 
 // The first c bytes of an 8-byte word as a number. Internal. Requires: c is above 0.
@@ -61,17 +49,16 @@ pub fn order_of(a: &[u8], m: usize, b: &[u8], n: usize) -> Ordering
     ensures { result ≡ standing lexb (take m a.now) (take n b.now) }
 {
     let both = lesser(m, n);
-    let mut i: usize = 0;
-    while i < both {
-        let x = front(word(a, i), both - i);
-        let y = front(word(b, i), both - i);
+    for i in 0..both.div_ceil(8) {
+        let left = both - 8 * i;
+        let x = front(word(a, 8 * i), left);
+        let y = front(word(b, 8 * i), left);
         if x < y {
             return Ordering::Less;
         }
         if y < x {
             return Ordering::Greater;
         }
-        i += 8;
     }
     if m < n {
         return Ordering::Less;
@@ -88,14 +75,11 @@ pub fn zeros_from(a: &[u8], n: usize) -> bool
     requires { (n ≤ length a.now) × (length a.now % 8 ≡ 0) }
     ensures { result ≡ all is_zero (drop n a.now) }
 {
-    let end = a.len();
     let mut c = n % 8;
-    let mut i = n - c;
-    while i < end {
-        if word(a, i) << (8 * c) != 0 {
+    for bytes in a[n - c..].chunks_exact(8) {
+        if word(bytes, 0) << (8 * c) != 0 {
             return false;
         }
-        i += 8;
         c = 0;
     }
     true

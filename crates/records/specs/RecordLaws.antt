@@ -1,5 +1,5 @@
 -- Laws of records: one file has one sound record, the blank record, arrays of records, and the files of a run. Assumes nothing.
-use Rattle.std.specs.Prelude.{ℕ, zero, suc, ◌+◌, ◌*◌, ◌^◌, ◌≤◌, ◌<◌, min, ◌≡◌, refl, ◌↔◌, true, ◌&&◌, cond, List, [], ◌∷◌, map, eqb, get_or, take, drop, replicate}
+use Rattle.std.specs.Prelude.{ℕ, zero, suc, ◌+◌, ◌^◌, ◌≤◌, ◌<◌, min, ◌≡◌, refl, ◌↔◌, true, ◌&&◌, cond, List, [], ◌∷◌, map, eqb, get_or, take, drop, replicate}
 use Rattle.std.proofs.Common.{sym, ◌∙◌, length-take-le, take-take, eqb-true, eq-eqb}
 use Rattle.std.proofs.Math.Path.{ap}
 use native.Mathlib.Omega.{arith}
@@ -11,7 +11,7 @@ use Rattle.lemmas.specs.ListLaws.{and_left, and_right, both, all_in}
 use Rattle.lemmas.specs.Slices.{put, put_front, drop_view, run_past, run_within, slice_map}
 use Rattle.lemmas.specs.Maps.{all_both}
 use Rattle.lemmas.specs.Each.{Each}
-use Rattle.model.specs.File.{File, full, seeks, total, numbers, good_file, max_size, key_room, max_files, max_bytes}
+use Rattle.model.specs.File.{File, full, seeks, total, numbers, good_file, key_room, max_files, max_bytes}
 use Rattle.model.specs.Key.{before}
 use Rattle.model.specs.Range.{low_key, high_key}
 use Rattle.model.proofs.RangeLaws.{smallest_of, largest_of, low_fold, high_fold}

@@ -2,6 +2,7 @@
 #![tactic(auto)]
 
 ghost use Rattle.std.specs.Prelude.{◌≡◌, min, replicate};
+ghost use Rattle.std.proofs.Math.Seq.{slice};
 ghost use Rattle.lemmas.specs.Lists.{all};
 ghost use Rattle.lemmas.specs.Slices.{put};
 ghost use Rattle.model.specs.File.{File, seeks, total, numbers, max_files, max_word};
@@ -9,7 +10,7 @@ ghost use Rattle.keys.specs.Key.{key_of};
 ghost use Rattle.records.specs.Record.{record_of, blank, vacant, well_record, blank_key, is_blank, limit_of};
 ghost use Rattle.records.specs.Run.{run, ends_of};
 
-use keys::{FileNumber, Key, Word};
+use keys::{FileNumber, Key};
 
 // The levels of a version.
 #[derive(Clone, Copy)]
@@ -197,22 +198,21 @@ pub fn within(to: usize) -> usize
     to
 }
 
+// The records in a run of places, up to the last of them. Internal.
+pub fn part(files: &[FileRecord], from: usize, to: usize) -> &[FileRecord]
+    ensures { result.now ≡ slice from to files.now }
+{
+    let end = to.min(files.len());
+    &files[from.min(end)..end]
+}
+
 // The sum of the sizes in a run, or the largest u64 if the sum is above it. Internal.
 pub fn total_size(files: [FileRecord; Version::ROOM], from: usize, to: usize) -> u64
     ensures { result ≡ min (total (run from to files)) max_word }
 {
-    let end = within(to);
-    let mut s: u64 = 0;
-    let mut i = from;
-    while i < end {
-        let x = files[i].size;
-        if Word::LARGEST - s < x {
-            return Word::LARGEST;
-        }
-        s += x;
-        i += 1;
-    }
-    s
+    part(&files, from, to)
+        .iter()
+        .fold(0, |s, f| s.saturating_add(f.size))
 }
 
 // The file numbers in a run, zeros past them. Internal.
@@ -223,16 +223,9 @@ pub fn numbers_of(
 ) -> [u64; Version::ROOM]
     ensures { result ≡ put (replicate max_files 0) 0 (numbers (run from to files)) }
 {
-    let end = within(to);
     let mut out = [0u64; Version::ROOM];
-    let mut n: usize = 0;
-    let mut i = from;
-    while i < end {
-        let f = files[i];
-        let x = f.number;
-        out[n] = x.0;
-        n += 1;
-        i += 1;
+    for (n, f) in part(&files, from, to).iter().enumerate() {
+        out[n] = f.number.0;
     }
     out
 }
@@ -241,28 +234,21 @@ pub fn numbers_of(
 pub fn get_range(files: [FileRecord; Version::ROOM], from: usize, to: usize) -> Ends
     ensures { result ≡ ends_of (run from to files) }
 {
-    let end = within(to);
-    if end <= from {
+    let Some((first, others)) = part(&files, from, to).split_first() else {
         return Ends {
             low: keys::blank_key(),
             high: keys::blank_key(),
         };
-    }
-    let first = files[from];
+    };
     let mut low = first.smallest;
     let mut high = first.largest;
-    let mut i = from + 1;
-    while i < end {
-        let f = files[i];
-        let a = f.smallest;
-        if keys::is_before(a, low) {
-            low = a;
+    for f in others {
+        if keys::is_before(f.smallest, low) {
+            low = f.smallest;
         }
-        let b = f.largest;
-        if keys::is_before(high, b) {
-            high = b;
+        if keys::is_before(high, f.largest) {
+            high = f.largest;
         }
-        i += 1;
     }
     Ends {
         low: keys::kept(low),

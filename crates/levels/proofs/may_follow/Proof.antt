@@ -2,7 +2,6 @@
 use mathlib.Core.Path.{sym, ap, ◌∙◌}
 use mathlib.Core.Bool.{not}
 use borrow.Author.Rules.{rules}
-use Rattle.model.specs.Key.{before}
 use Rattle.model.specs.File.{by_smallest}
 use Rattle.records.specs.Record.{file_of}
 use Rattle.levels.specs.LevelsLaws.{follows_first, follows_deeper}

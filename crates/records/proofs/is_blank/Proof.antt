@@ -1,7 +1,7 @@
 -- `records::is_blank` meets its contract. Assumes nothing.
 use mathlib.Core.Path.{sym, ◌∙◌}
 use borrow.Author.Rules.{rules}
-use borrow.Author.Tests.{eq-eqb, ne_eqb, not-true, not-false}
+use borrow.Author.Tests.{eq-eqb, ne_eqb}
 use Rattle.records.specs.Record.{is_blank}
 use Rattle.records.proofs.is_blank.Statement.{statement}
 use Rattle.records.proofs.is_blank.Tie as tie

@@ -6,7 +6,7 @@ use native.Mathlib.Omega.{arith}
 use lib.Dec.{leb, eqb}
 use lib.ListN.{length, take}
 use borrow.Author.Rules.{rules}
-use borrow.Author.Tests.{not-true, not-false, le-leb, lt-leb}
+use borrow.Author.Tests.{le-leb, lt-leb}
 use Rattle.lemmas.specs.ListLaws.{and_left, and_true}
 use Rattle.model.specs.Key.{good_key, before}
 use Rattle.model.specs.File.{full, seeks, good_file, max_size}
