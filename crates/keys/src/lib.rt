@@ -147,9 +147,9 @@ pub fn precedes(a: &[u8], m: usize, b: &[u8], n: usize) -> bool
     let x = without_trailer(m);
     let y = without_trailer(n);
     match octets::order_of(a, x, b, y) {
-        Order::Less => true,
-        Order::Equal => rank_of(b, n) < rank_of(a, m),
-        Order::Greater => false,
+        Ordering::Less => true,
+        Ordering::Equal => rank_of(b, n) < rank_of(a, m),
+        Ordering::Greater => false,
     }
 }
 
