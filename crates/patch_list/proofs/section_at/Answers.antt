@@ -1,0 +1,38 @@
+-- `section_at` meets its contract. Assumes nothing.
+use Rattle.std.proofs.Common.{arith}
+use Rattle.patch_list.specs.TurnLaws.{section_short, section_begun, entry_wrong, turn_wrong, turn_right, section_done}
+use Rattle.patch_list.proofs.section_at.Goals as goal
+
+pub returns-then-src-at-lt-COUNT : goal.returns-then-src-at-lt-COUNT
+returns-then-src-at-lt-COUNT c = section_short c.args.section c.args.src.now c.args.at c.if-src-at-lt-COUNT.true
+
+pub loop-n-init : goal.loop-n-init
+loop-n-init c =
+    let a = c.args in
+    section_begun a.section a.src.now a.at c.requires c.if-src-at-lt-COUNT.false c.get_number-n.result c.get_number-n.ensures
+
+pub returns-in_err-e : goal.returns-in_err-e
+returns-in_err-e c =
+    let a = c.args in
+    let l = c.loop-n in
+    rw c.from_residual.ensures (entry_wrong a.section a.src.now a.at l.n l.next l.last c.loop-n-test.true l.invariant c.in_err-e.ensures)
+
+pub returns-then-not-follows : goal.returns-then-not-follows
+returns-then-not-follows c =
+    let a = c.args in
+    let l = c.loop-n in
+    let e = c.in_ok-e in
+    turn_wrong a.section a.src.now a.at l.n l.next l.last c.loop-n-test.true l.invariant e.e e.ensures c.follows.result c.follows.ensures c.if-not-follows.true
+
+pub loop-n-preserved : goal.loop-n-preserved
+loop-n-preserved c =
+    let a = c.args in
+    let l = c.loop-n in
+    let e = c.in_ok-e in
+    turn_right a.section a.src.now a.at l.n l.next l.last c.loop-n-test.true l.invariant e.e e.ensures c.follows.result c.follows.ensures c.if-not-follows.false
+
+pub returns : goal.returns
+returns c =
+    let a = c.args in
+    let l = c.loop-n in
+    section_done a.section a.src.now a.at l.n l.next l.last l.invariant (omega arith)
