@@ -1,6 +1,6 @@
 -- The entries of a list, read leniently section by section, and whether they are right: each good and in order, and the bytes just what they write. Assumes
 -- nothing.
-use Rattle.std.specs.Prelude.{ℕ, zero, suc, ◌≡◌, Bool, true, ◌&&◌, cond, List, [], ◌∷◌, ◌++◌, eqb, ltb, leb, length, drop}
+use Rattle.std.specs.Prelude.{ℕ, zero, suc, ◌≡◌, Bool, true, false, ◌&&◌, cond, Option, Some, None, MatchOption, List, [], ◌∷◌, ◌++◌, eqb, ltb, leb, length, drop}
 use Rattle.lemmas.specs.Order.{lexb}
 use Rattle.lemmas.specs.Lists.{is_empty}
 use Rattle.model.specs.File.{full, good_file, good_pointer, level_count, max_counter}
@@ -113,13 +113,18 @@ list_right bs =
     section_right 0 bs && (section_right 1 b && (section_right 2 c && is_empty (after_section 2 c)))
 
 -- ---- what code keeps of an entry
--- it is read at a place of the bytes: the place after it, what it stands by, and whether it is right
-pub record Found (src : List ℕ) (r : Reading) (e : Entry) : Type 0 where
+-- it is read at a place of the bytes, and it is right: the place after it, and what it stands by
+pub record Kept (src : List ℕ) (r : Reading) (e : Entry) : Type 0 where
+  pub right : r.right ≡ true
   pub next : At src e.next r.rest
   pub level : e.level ≡ level_of r.entry
   pub number : e.number ≡ number_of r.entry
-  pub right : e.right ≡ r.right
 
--- what the last entry stands by: nothing if it is not right, as before the first
-unfoldable pub last_standing : Entry → List ℕ
-last_standing e = cond e.right (e.level ∷ e.number ∷ []) []
+-- an entry that is right is kept, another is not
+abbrev pub Found : List ℕ → Reading → Option Entry → Type 0
+Found src r o = MatchOption o (r.right ≡ false) (Kept src r)
+
+-- what the last entry stands by: nothing before the first
+unfoldable pub last_standing : Option Entry → List ℕ
+last_standing None = []
+last_standing (Some e) = e.level ∷ e.number ∷ []

@@ -1,10 +1,10 @@
 -- Laws of entries found at places of the bytes: what is compared there, and what is kept of them. Assumes nothing.
-use Rattle.std.specs.Prelude.{ℕ, ◌+◌, ◌-◌, ◌≤◌, ◌<◌, ◌≡◌, ◌⊎◌, Bool, not, ◌&&◌, ◌||◌, cond, List, [], ◌∷◌, ◌++◌, eqb, leb, length, take}
+use Rattle.std.specs.Prelude.{ℕ, ◌+◌, ◌-◌, ◌≤◌, ◌<◌, ◌≡◌, ◌⊎◌, Bool, not, ◌&&◌, ◌||◌, cond, Option, Some, None, List, [], ◌∷◌, ◌++◌, eqb, leb, length, take}
 use Rattle.std.proofs.Math.Path.{refl, sym, ap}
 use Rattle.std.proofs.Common.{◌∙◌, subst, inl, inr, arith, take-append-drop, take_at, drop-drop}
 use Rattle.std.proofs.Math.Bool.{true, false}
 use Rattle.std.proofs.lemmas.List.{append_cancel_right}
-use borrow.Author.Tests.{ltb-false, lt-ltb, le-ltb, ne_eqb}
+use borrow.Author.Tests.{ltb-false, lt-ltb, le-ltb, lt-leb, le-leb, ne_eqb}
 use Rattle.std.proofs.Math.Dec.{ltb}
 use Rattle.std.proofs.Math.ListN.{drop, length-drop}
 use Rattle.lemmas.specs.Order.{lexb, by_first, clash}
@@ -24,7 +24,7 @@ use Rattle.records.specs.RecordLaws.{record_of_sound, file_of_record_of}
 use Rattle.snapshot_parts.specs.LayingLaws.{key_long}
 use Rattle.snapshot_parse.specs.Parsing.{At, number_in, key_length, key_in, after_key, file_in, after_file}
 use Rattle.snapshot_parse.specs.ParsingLaws.{key_in_short}
-use Rattle.patch_list.specs.Entries.{Reading, exact_file, exact_key, number_only, whole_file, file_entry, pointer_entry, counter_entry, level_of, number_of, Found, last_standing}
+use Rattle.patch_list.specs.Entries.{Reading, exact_file, exact_key, number_only, whole_file, file_entry, pointer_entry, counter_entry, level_of, number_of, Kept, Found, last_standing}
 use Rattle.patch_list.specs.declared.Entry.{Entry}
 
 -- ---- bytes that are compared
@@ -69,27 +69,32 @@ file_less bs = omega (arith, key_less (after_key (drop keys_at bs)), key_less (d
 
 -- ---- tests one after another
 -- the second fails
-one_fails : (a : Bool) → false ≡ (a && false)
+one_fails : (a : Bool) → (a && false) ≡ false
 one_fails true = refl
 one_fails false = refl
 
 -- the third fails
-two_fail : (a b : Bool) → false ≡ (a && (b && false))
+two_fail : (a b : Bool) → (a && (b && false)) ≡ false
 two_fail true b = one_fails b
 two_fail false b = refl
 
 -- ---- files
--- a number that only the left has, and the place after it
-module _ (src : List ℕ) (at next l n : ℕ) (u : n ≡ number_in number_long (drop at src)) (e : At src next (drop number_long (drop at src))) where
-  -- its entry is right if the level is one and all its bytes are there
-  pub number_passed : l < level_count → Found src (number_only l (drop at src)) (record { next = next; level = l; number = n; right = leb number_long (length src - at) })
-  unfolding number_only level_of number_of
-  number_passed g = record { next = e; level = refl; number = u; right = rw (lt-ltb l level_count g, length-drop at src) }
+-- a number that only the left has, of level l
+module _ (src : List ℕ) (at l : ℕ) where
+  -- its entry is not right if the level is none
+  pub number_no_level : level_count ≤ l → (number_only l (drop at src)).right ≡ false
+  unfolding number_only
+  number_no_level g = rw (le-ltb l level_count g)
 
-  -- it is not if the level is none
-  pub number_failed : level_count ≤ l → Found src (number_only l (drop at src)) (record { next = next; level = l; number = n; right = false })
+  -- nor if not all its bytes are there
+  pub number_cut : length src - at < number_long → (number_only l (drop at src)).right ≡ false
+  unfolding number_only
+  number_cut h = rw (length-drop at src, lt-leb number_long (length src - at) h) (one_fails (ltb l level_count))
+
+  -- else it is kept, with the number and the place after it
+  pub number_kept : (next n : ℕ) → n ≡ number_in number_long (drop at src) → At src next (drop number_long (drop at src)) → l < level_count → number_long ≤ length src - at → Kept src (number_only l (drop at src)) (record { next = next; level = l; number = n })
   unfolding number_only level_of number_of
-  number_failed g = record { next = e; level = refl; number = u; right = rw (le-ltb l level_count g) }
+  number_kept next n u e g h = record { right = rw (lt-ltb l level_count g, length-drop at src, le-leb number_long (length src - at) h); next = e; level = refl; number = u }
 
 -- the record of a file as it is read, and the place after it
 module _ (src : List ℕ) (at next : ℕ) (h : at ≤ length src) (e : At src next (after_file (drop at src))) where
@@ -112,10 +117,22 @@ module _ (src : List ℕ) (at next : ℕ) (h : at ≤ length src) (e : At src ne
 
     -- its entry, of kind k and level l
     module _ (k l : ℕ) where
-      -- what is kept of it
-      file_found : (b : Bool) → b ≡ (whole_file k l (drop at src)).right → Found src (whole_file k l (drop at src)) (record { next = next; level = l; number = r.number.0; right = b })
+      -- it is not right if it fails a test
+      pub file_failed : (well_record r ≡ false) ⊎ ((leb k changed_kind ≡ false) ⊎ (level_count ≤ l)) → (whole_file k l (drop at src)).right ≡ false
+      unfolding whole_file exact_file
+      file_failed (inl t) = rw (sym well ∙ t) (two_fail (ltb l level_count) (leb k changed_kind))
+      file_failed (inr (inl t)) = rw t (one_fails (ltb l level_count))
+      file_failed (inr (inr g)) = rw (le-ltb l level_count g)
+
+      -- if it passes them, it is right if these are the bytes that it writes
+      pub file_right : l < level_count → leb k changed_kind ≡ true → well_record r ≡ true → same_bytes (write_file (file_of r)) (take (next - at) (drop at src)) ≡ (whole_file k l (drop at src)).right
+      unfolding whole_file exact_file
+      file_right g p t = lent_same src at next (after_file (drop at src)) e file_up (write_file (file_of r)) ∙ rw (stands, lt-ltb l level_count g, p, sym well ∙ t)
+
+      -- then it is kept
+      pub file_kept : (whole_file k l (drop at src)).right ≡ true → Kept src (whole_file k l (drop at src)) (record { next = next; level = l; number = r.number.0 })
       unfolding whole_file level_of number_of record_of
-      file_found b t = record { next = e; level = go (eqb k right_kind); number = ap (λ (x : FileRecord). x.number.0) q ∙ of (eqb k right_kind); right = t }
+      file_kept t = record { right = t; next = e; level = go (eqb k right_kind); number = ap (λ (x : FileRecord). x.number.0) q ∙ of (eqb k right_kind) }
         where
           go : (t : Bool) → l ≡ level_of (cond t (only_right l (file_in (drop at src))) (changed l (file_in (drop at src))))
           go true = refl
@@ -124,24 +141,6 @@ module _ (src : List ℕ) (at next : ℕ) (h : at ≤ length src) (e : At src ne
           of : (t : Bool) → (file_in (drop at src)).number ≡ number_of (cond t (only_right l (file_in (drop at src))) (changed l (file_in (drop at src))))
           of true = refl
           of false = refl
-
-      -- it is right if it passes the tests and these are the bytes that it writes
-      pub file_passed : l < level_count → leb k changed_kind ≡ true → well_record r ≡ true → (b : Bool) → b ≡ same_bytes (write_file (file_of r)) (take (next - at) (drop at src))
-          → Found src (whole_file k l (drop at src)) (record { next = next; level = l; number = r.number.0; right = b })
-      unfolding whole_file exact_file
-      file_passed g p t b f =
-          let bs = drop at src in
-          file_found b (f ∙ lent_same src at next (after_file bs) e file_up (write_file (file_of r)) ∙ rw (stands, lt-ltb l level_count g, p, sym well ∙ t))
-
-      -- it is not if it fails one
-      pub file_failed : (well_record r ≡ false) ⊎ ((leb k changed_kind ≡ false) ⊎ (level_count ≤ l)) → Found src (whole_file k l (drop at src)) (record { next = next; level = l; number = r.number.0; right = false })
-      unfolding whole_file exact_file
-      file_failed w = file_found false (go w)
-        where
-          go : (well_record r ≡ false) ⊎ ((leb k changed_kind ≡ false) ⊎ (level_count ≤ l)) → false ≡ (ltb l level_count && (leb k changed_kind && (good_file full (file_in (drop at src)) && same_bytes (write_file (file_in (drop at src)) ++ after_file (drop at src)) (drop at src))))
-          go (inl t) = rw (sym well ∙ t) (two_fail (ltb l level_count) (leb k changed_kind))
-          go (inr (inl t)) = rw t (one_fails (ltb l level_count))
-          go (inr (inr g)) = rw (le-ltb l level_count g)
 
 -- ---- pointers
 -- the record of a key as it is read, and the place after it
@@ -162,28 +161,33 @@ module _ (src : List ℕ) (at next : ℕ) (h : at ≤ length src) (e : At src ne
 
     -- an entry of pointers, whose key it is, with the level before it
     module _ (from l : ℕ) (u : l ≡ number_in byte_long (drop from src)) (v : drop at src ≡ drop byte_long (drop from src)) where
-      -- what is kept of it
-      pointer_found : (b : Bool) → b ≡ (ltb l level_count && exact_key (drop at src)) → Found src (pointer_entry (drop from src)) (record { next = next; level = l; number = 0; right = b })
-      unfolding pointer_entry level_of number_of
-      pointer_found b t = record { next = record { within = e.within; rest = e.rest ∙ ap after_key v }; level = u; number = refl; right = rw (← u, ← v) t }
+      -- whether it is right
+      pointer_is_right : (pointer_entry (drop from src)).right ≡ (ltb l level_count && exact_key (drop at src))
+      unfolding pointer_entry
+      pointer_is_right = rw (← u, ← v)
 
-      -- it is right if it passes the tests and these are the bytes that the key writes
-      pub pointer_passed : l < level_count → good_pointer full (pointer_of (key_of k)) ≡ true → (b : Bool) → b ≡ same_bytes (write_key (key_of k)) (take (next - at) (drop at src))
-          → Found src (pointer_entry (drop from src)) (record { next = next; level = l; number = 0; right = b })
+      -- it is not if it fails a test
+      pub pointer_failed : (good_pointer full (pointer_of (key_of k)) ≡ false) ⊎ (level_count ≤ l) → (pointer_entry (drop from src)).right ≡ false
       unfolding exact_key
-      pointer_passed g t b f =
-          let bs = drop at src in
-          let good : good_pointer full (pointer_of (key_in bs)) ≡ true = rw key_stands at t in
-          pointer_found b (f ∙ lent_same src at next (after_key bs) e key_up (write_key (key_of k)) ∙ rw (key_stands, good, lt-ltb l level_count g))
-
-      -- it is not if it fails one
-      pub pointer_failed : (good_pointer full (pointer_of (key_of k)) ≡ false) ⊎ (level_count ≤ l) → Found src (pointer_entry (drop from src)) (record { next = next; level = l; number = 0; right = false })
-      unfolding exact_key
-      pointer_failed w = pointer_found false (go w)
+      pointer_failed w = pointer_is_right ∙ go w
         where
-          go : (good_pointer full (pointer_of (key_of k)) ≡ false) ⊎ (level_count ≤ l) → false ≡ (ltb l level_count && (good_pointer full (pointer_of (key_in (drop at src))) && same_bytes (write_key (key_in (drop at src)) ++ after_key (drop at src)) (drop at src)))
+          go : (good_pointer full (pointer_of (key_of k)) ≡ false) ⊎ (level_count ≤ l) → (ltb l level_count && (good_pointer full (pointer_of (key_in (drop at src))) && same_bytes (write_key (key_in (drop at src)) ++ after_key (drop at src)) (drop at src))) ≡ false
           go (inl t) = let none : good_pointer full (pointer_of (key_in (drop at src))) ≡ false = rw key_stands at t in rw none (one_fails (ltb l level_count))
           go (inr g) = rw (le-ltb l level_count g)
+
+      -- if it passes them, it is right if these are the bytes that the key writes
+      pub pointer_right : l < level_count → good_pointer full (pointer_of (key_of k)) ≡ true → same_bytes (write_key (key_of k)) (take (next - at) (drop at src)) ≡ (pointer_entry (drop from src)).right
+      unfolding exact_key
+      pointer_right g t =
+          let bs = drop at src in
+          let good : good_pointer full (pointer_of (key_in bs)) ≡ true = rw key_stands at t in
+          let whole : (pointer_entry (drop from src)).right ≡ same_bytes (write_key (key_in bs) ++ after_key bs) bs = pointer_is_right ∙ rw (good, lt-ltb l level_count g) in
+          lent_same src at next (after_key bs) e key_up (write_key (key_of k)) ∙ rw key_stands (sym whole)
+
+      -- then it is kept
+      pub pointer_kept : (pointer_entry (drop from src)).right ≡ true → Kept src (pointer_entry (drop from src)) (record { next = next; level = l; number = 0 })
+      unfolding pointer_entry level_of number_of
+      pointer_kept t = record { right = t; next = record { within = e.within; rest = e.rest ∙ ap after_key v }; level = u; number = refl }
 
 -- the key of no bytes is that of a pointer that is not set
 pub unset_pointer : (k : Key) → k.len ≡ 0 → good_pointer full (pointer_of (key_of k)) ≡ true
@@ -200,29 +204,32 @@ set_pointer_lem k q h n = go (key_of k) (key_long k q h)
     go (b ∷ x) e = refl
 
 -- ---- counters
--- an entry of counters: its place in a snapshot and its number, and the place after it
-module _ (src : List ℕ) (from at next i v : ℕ) (u : i ≡ number_in byte_long (drop from src)) (s : At src at (drop byte_long (drop from src))) (w : v ≡ number_in number_long (drop at src)) (e : At src next (drop number_long (drop at src))) where
-  -- what is kept of it
-  counter_found : (b : Bool) → b ≡ (ltb i counter_count && (leb v max_counter && leb number_long (length src - at))) → Found src (counter_entry (drop from src)) (record { next = next; level = i; number = 0; right = b })
-  unfolding counter_entry level_of number_of
-  counter_found b t = record {
-    next = record { within = e.within; rest = e.rest ∙ ap (drop number_long) s.rest };
-    level = u;
-    number = refl;
-    right = t ∙ rw (u, w, ← s.rest, length-drop at src);
-  }
+-- an entry of counters: its place in a snapshot and its number
+module _ (src : List ℕ) (from at i v : ℕ) (u : i ≡ number_in byte_long (drop from src)) (s : At src at (drop byte_long (drop from src))) (w : v ≡ number_in number_long (drop at src)) where
+  -- whether it is right
+  counter_is_right : (counter_entry (drop from src)).right ≡ (ltb i counter_count && (leb v max_counter && leb number_long (length src - at)))
+  unfolding counter_entry
+  counter_is_right = sym (rw (u, w, ← s.rest, length-drop at src))
 
-  -- it is right if it passes the tests and all its bytes are there
-  pub counter_passed : i < counter_count → leb v max_counter ≡ true → Found src (counter_entry (drop from src)) (record { next = next; level = i; number = 0; right = leb number_long (length src - at) })
-  counter_passed g k = counter_found (leb number_long (length src - at)) (rw (lt-ltb i counter_count g, k))
-
-  -- it is not if it fails one
-  pub counter_failed : (leb v max_counter ≡ false) ⊎ (counter_count ≤ i) → Found src (counter_entry (drop from src)) (record { next = next; level = i; number = 0; right = false })
-  counter_failed o = counter_found false (go o)
+  -- it is not if it fails a test
+  pub counter_failed : (length src - at < number_long) ⊎ ((leb v max_counter ≡ false) ⊎ (counter_count ≤ i)) → (counter_entry (drop from src)).right ≡ false
+  counter_failed o = counter_is_right ∙ go o
     where
-      go : (leb v max_counter ≡ false) ⊎ (counter_count ≤ i) → false ≡ (ltb i counter_count && (leb v max_counter && leb number_long (length src - at)))
-      go (inl k) = rw k (one_fails (ltb i counter_count))
-      go (inr g) = rw (le-ltb i counter_count g)
+      go : (length src - at < number_long) ⊎ ((leb v max_counter ≡ false) ⊎ (counter_count ≤ i)) → (ltb i counter_count && (leb v max_counter && leb number_long (length src - at))) ≡ false
+      go (inl h) = rw (lt-leb number_long (length src - at) h) (two_fail (ltb i counter_count) (leb v max_counter))
+      go (inr (inl k)) = rw k (one_fails (ltb i counter_count))
+      go (inr (inr g)) = rw (le-ltb i counter_count g)
+
+  -- the place after it
+  module _ (next : ℕ) (e : At src next (drop number_long (drop at src))) where
+    -- if it is right, it is kept
+    counter_right_kept : (counter_entry (drop from src)).right ≡ true → Kept src (counter_entry (drop from src)) (record { next = next; level = i; number = 0 })
+    unfolding counter_entry level_of number_of
+    counter_right_kept t = record { right = t; next = record { within = e.within; rest = e.rest ∙ ap (drop number_long) s.rest }; level = u; number = refl }
+
+    -- so it is if it passes the tests
+    pub counter_kept : i < counter_count → leb v max_counter ≡ true → number_long ≤ length src - at → Kept src (counter_entry (drop from src)) (record { next = next; level = i; number = 0 })
+    counter_kept g k h = counter_right_kept (counter_is_right ∙ rw (lt-ltb i counter_count g, k, le-leb number_long (length src - at) h))
 
 -- ---- the order of two entries
 module _ (l n m k : ℕ) where
@@ -248,32 +255,22 @@ module _ (l n m k : ℕ) where
       go false true = refl
       go false false = refl
 
+-- whether an entry stands after the last one
+-- it is the first
+pub follows_first : (e : Entry) → true ≡ lexb (last_standing None) (e.level ∷ e.number ∷ [])
+unfolding last_standing lexb
+follows_first e = refl
+
 module _ (last e : Entry) where
-  -- what is to be tested
-  abbrev may_follow : Bool
-  may_follow = e.right && lexb (last_standing last) (e.level ∷ e.number ∷ [])
-
-  -- the entry is right, and not the first
-  both_right : e.right ≡ true → last.right ≡ true → may_follow ≡ lexb (last.level ∷ last.number ∷ []) (e.level ∷ e.number ∷ [])
-  unfolding last_standing
-  both_right h k = rw (h, k)
-
-  -- it is not right
-  pub follows_wrong : e.right ≡ false → false ≡ may_follow
-  follows_wrong h = rw h
-
-  -- it is the first
-  pub follows_first : e.right ≡ true → last.right ≡ false → true ≡ may_follow
-  unfolding last_standing lexb
-  follows_first h k = rw (h, k)
-
   -- it is of another level
-  pub follows_level : e.right ≡ true → last.right ≡ true → (last.level ≡ e.level → ⊥) → ltb last.level e.level ≡ may_follow
-  follows_level h k n = sym (both_right h k ∙ by_level last.level last.number e.level e.number n)
+  pub follows_level : (last.level ≡ e.level → ⊥) → ltb last.level e.level ≡ lexb (last_standing (Some last)) (e.level ∷ e.number ∷ [])
+  unfolding last_standing
+  follows_level n = sym (by_level last.level last.number e.level e.number n)
 
   -- it is of the same level
-  pub follows_number : e.right ≡ true → last.right ≡ true → last.level ≡ e.level → ltb last.number e.number ≡ may_follow
-  follows_number h k q = sym (both_right h k ∙ by_number_lem last.level last.number e.level e.number q)
+  pub follows_number : last.level ≡ e.level → ltb last.number e.number ≡ lexb (last_standing (Some last)) (e.level ∷ e.number ∷ [])
+  unfolding last_standing
+  follows_number q = sym (by_number_lem last.level last.number e.level e.number q)
 
 -- ---- an entry of files by its kind
 -- kind, level, and the place after them
@@ -284,9 +281,9 @@ module _ (src : List ℕ) (at mid body k l : ℕ) (u : k ≡ number_in byte_long
   files_are = rw (u, v, t.rest, s.rest)
 
   -- only the left has it
-  pub files_left : k ≡ left_kind → (e : Entry) → Found src (number_only l (drop body src)) e → Found src (file_entry (drop at src)) e
-  files_left z e f = subst (λ (r : Reading). Found src r e) (sym (files_are ∙ rw z)) f
+  pub files_left : k ≡ left_kind → (o : Option Entry) → Found src (number_only l (drop body src)) o → Found src (file_entry (drop at src)) o
+  files_left z o f = subst (λ (r : Reading). Found src r o) (sym (files_are ∙ rw z)) f
 
   -- or not
-  pub files_whole : (k ≡ left_kind → ⊥) → (e : Entry) → Found src (whole_file k l (drop body src)) e → Found src (file_entry (drop at src)) e
-  files_whole z e f = subst (λ (r : Reading). Found src r e) (sym (files_are ∙ rw (ne_eqb k left_kind z))) f
+  pub files_whole : (k ≡ left_kind → ⊥) → (o : Option Entry) → Found src (whole_file k l (drop body src)) o → Found src (file_entry (drop at src)) o
+  files_whole z o f = subst (λ (r : Reading). Found src r o) (sym (files_are ∙ rw (ne_eqb k left_kind z))) f

@@ -1,7 +1,7 @@
 // Whether bytes are a list of differences: its three sections are read leniently, entry by entry, and each entry must be good, in order, and these very bytes.
 #![tactic(auto)]
 
-ghost use Rattle.std.specs.Prelude.{◌≡◌, true, ◌&&◌, [], ◌∷◌, ◌≤◌, length, drop};
+ghost use Rattle.std.specs.Prelude.{◌≡◌, true, false, [], ◌∷◌, ◌≤◌, length, drop, MatchOption};
 ghost use Rattle.lemmas.specs.Order.{lexb};
 ghost use Rattle.model.specs.File.{key_room, good_pointer, full};
 ghost use Rattle.model.specs.Snapshot.{write_key, write_file, same_bytes};
@@ -31,20 +31,12 @@ impl Section {
     const COUNTERS: u8 = 2;
 }
 
-// An entry as it is read: the place after it, what it stands by in its section, and whether it is good and its bytes are just what it writes.
+// An entry that is good and whose bytes are just what it writes: the place after it, and what it stands by in its section.
 #[derive(Clone, Copy)]
 struct Entry {
     next: usize,
     level: u64,
     number: u64,
-    right: bool,
-}
-
-// A section as it is read: the place after it, and whether it is right.
-#[derive(Clone, Copy)]
-struct Checked {
-    next: usize,
-    right: bool,
 }
 
 // Whether a file writes these very bytes. Requires: its record is well-formed.
@@ -79,50 +71,44 @@ fn is_pointer(k: Key) -> bool
 }
 
 // What follows the level of a file that only the left has: its number. Requires: the place is within the bytes.
-fn number_only(src: &[u8], at: usize, level: u64) -> Entry
+fn number_only(src: &[u8], at: usize, level: u64) -> Option<Entry>
     requires { at ≤ length src.now }
     ensures { Found src.now (number_only level (drop at src.now)) result }
 {
-    let number = snapshot_parse::get_number(src, at, Snapshot::NUMBER);
-    let next = snapshot_parse::after(src, at, Snapshot::NUMBER);
-    let mut right = false;
-    if level < Level::COUNT as u64 {
-        right = Snapshot::NUMBER <= src.len() - at;
+    if level >= Level::COUNT as u64 || src.len() - at < Snapshot::NUMBER {
+        return None;
     }
-    Entry {
-        next: next,
-        level: level,
-        number: number,
-        right: right,
-    }
+    Some(Entry {
+        next: snapshot_parse::after(src, at, Snapshot::NUMBER),
+        level,
+        number: snapshot_parse::get_number(src, at, Snapshot::NUMBER),
+    })
 }
 
 // What follows the level of another: the file. Requires: the place is within the bytes.
-fn whole_file(src: &[u8], at: usize, kind: u64, level: u64) -> Entry
+fn whole_file(src: &[u8], at: usize, kind: u64, level: u64) -> Option<Entry>
     requires { at ≤ length src.now }
     ensures { Found src.now (whole_file kind level (drop at src.now)) result }
 {
     let f = snapshot_parse::get_file(src, at);
-    let file = f.file;
-    let next = f.next;
-    let number = file.number;
-    let mut right = false;
-    if level < Level::COUNT as u64
-        && kind <= Kind::CHANGED as u64
-        && records::is_well_formed(file)
+    if level >= Level::COUNT as u64
+        || kind > Kind::CHANGED as u64
+        || !records::is_well_formed(f.file)
     {
-        right = file_writes(file, &src[at..next]);
+        return None;
     }
-    Entry {
-        next: next,
-        level: level,
-        number: number.0,
-        right: right,
+    if !file_writes(f.file, &src[at..f.next]) {
+        return None;
     }
+    Some(Entry {
+        next: f.next,
+        level,
+        number: f.file.number.0,
+    })
 }
 
 // The entry of files at a place. Requires: the place is within the bytes.
-fn file_entry(src: &[u8], at: usize) -> Entry
+fn file_entry(src: &[u8], at: usize) -> Option<Entry>
     requires { at ≤ length src.now }
     ensures { Found src.now (file_entry (drop at src.now)) result }
 {
@@ -137,50 +123,49 @@ fn file_entry(src: &[u8], at: usize) -> Entry
 }
 
 // The entry of pointers at a place. Requires: the place is within the bytes.
-fn pointer_entry(src: &[u8], at: usize) -> Entry
+fn pointer_entry(src: &[u8], at: usize) -> Option<Entry>
     requires { at ≤ length src.now }
     ensures { Found src.now (pointer_entry (drop at src.now)) result }
 {
     let level = snapshot_parse::get_number(src, at, Snapshot::BYTE);
     let start = snapshot_parse::after(src, at, Snapshot::BYTE);
     let k = snapshot_parse::get_key(src, start);
-    let key = k.key;
-    let next = k.next;
-    let mut right = false;
-    if level < Level::COUNT as u64 && is_pointer(key) {
-        right = key_writes(key, &src[start..next]);
+    if level >= Level::COUNT as u64 || !is_pointer(k.key) {
+        return None;
     }
-    Entry {
-        next: next,
-        level: level,
+    if !key_writes(k.key, &src[start..k.next]) {
+        return None;
+    }
+    Some(Entry {
+        next: k.next,
+        level,
         number: 0,
-        right: right,
-    }
+    })
 }
 
 // The entry of counters at a place. Requires: the place is within the bytes.
-fn counter_entry(src: &[u8], at: usize) -> Entry
+fn counter_entry(src: &[u8], at: usize) -> Option<Entry>
     requires { at ≤ length src.now }
     ensures { Found src.now (counter_entry (drop at src.now)) result }
 {
     let i = snapshot_parse::get_number(src, at, Snapshot::BYTE);
     let start = snapshot_parse::after(src, at, Snapshot::BYTE);
     let value = snapshot_parse::get_number(src, start, Snapshot::NUMBER);
-    let next = snapshot_parse::after(src, start, Snapshot::NUMBER);
-    let mut right = false;
-    if i < Snapshot::FIVE as u64 && value <= Counters::LARGEST {
-        right = Snapshot::NUMBER <= src.len() - start;
+    if i >= Snapshot::FIVE as u64
+        || value > Counters::LARGEST
+        || src.len() - start < Snapshot::NUMBER
+    {
+        return None;
     }
-    Entry {
-        next: next,
+    Some(Entry {
+        next: snapshot_parse::after(src, start, Snapshot::NUMBER),
         level: i,
         number: 0,
-        right: right,
-    }
+    })
 }
 
-// The entry of a section at a place. Requires: the place is within the bytes.
-fn entry_at(src: &[u8], at: usize, section: u8) -> Entry
+// The entry of a section at a place, if it is good and its bytes are just what it writes. Requires: the place is within the bytes.
+fn entry_at(src: &[u8], at: usize, section: u8) -> Option<Entry>
     requires { at ≤ length src.now }
     ensures { Found src.now (entry_in section (drop at src.now)) result }
 {
@@ -193,71 +178,53 @@ fn entry_at(src: &[u8], at: usize, section: u8) -> Entry
     counter_entry(src, at)
 }
 
-// Whether an entry is right and stands after the last one. Before the first the last one is not right.
-fn follows(last: Entry, e: Entry) -> bool
-    ensures { result ≡ e.right && lexb (last_standing last) (e.level ∷ e.number ∷ []) }
+// Whether an entry stands after the last one, if there is one.
+fn follows(last: Option<Entry>, e: Entry) -> bool
+    ensures { result ≡ lexb (last_standing last) (e.level ∷ e.number ∷ []) }
 {
-    if !e.right {
-        return false;
-    }
-    if !last.right {
+    let Some(l) = last else {
         return true;
+    };
+    if l.level != e.level {
+        return l.level < e.level;
     }
-    if last.level != e.level {
-        return last.level < e.level;
-    }
-    last.number < e.number
+    l.number < e.number
 }
 
-// The section at a place. If it is not right the place after it is some place. Requires: the place is within the bytes.
-fn section_at(src: &[u8], at: usize, section: u8) -> Checked
+// The place after the section at a place, if the section is right. Requires: the place is within the bytes.
+fn section_at(src: &[u8], at: usize, section: u8) -> Option<usize>
     requires { at ≤ length src.now }
-    ensures { (result.right ≡ section_right section (drop at src.now)) × (result.right ≡ true → At src.now result.next (after_section section (drop at src.now))) }
+    ensures { MatchOption result (section_right section (drop at src.now) ≡ false) (λ next. (section_right section (drop at src.now) ≡ true) × At src.now next (after_section section (drop at src.now))) }
 {
     if src.len() - at < Snapshot::COUNT {
-        return Checked {
-            next: at,
-            right: false,
-        };
+        return None;
     }
     let n = snapshot_parse::get_number(src, at, Snapshot::COUNT);
-    let mut last = Entry {
-        next: at + Snapshot::COUNT,
-        level: 0,
-        number: 0,
-        right: false,
-    };
+    let mut next = at + Snapshot::COUNT;
+    let mut last: Option<Entry> = None;
     for _ in 0..n {
-        let e = entry_at(src, last.next, section);
+        let e = entry_at(src, next, section)?;
         if !follows(last, e) {
-            return Checked {
-                next: at,
-                right: false,
-            };
+            return None;
         }
-        last = e;
+        next = e.next;
+        last = Some(e);
     }
-    Checked {
-        next: last.next,
-        right: true,
-    }
+    Some(next)
 }
 
 // Whether bytes are a list of differences. Internal.
 pub fn is_list(src: &[u8]) -> bool
     ensures { result ≡ is_list src.now }
 {
-    let files = section_at(src, 0, Section::FILES);
-    if !files.right {
+    let Some(pointers_at) = section_at(src, 0, Section::FILES) else {
         return false;
-    }
-    let pointers = section_at(src, files.next, Section::POINTERS);
-    if !pointers.right {
+    };
+    let Some(counters_at) = section_at(src, pointers_at, Section::POINTERS) else {
         return false;
-    }
-    let counters = section_at(src, pointers.next, Section::COUNTERS);
-    if !counters.right {
+    };
+    let Some(end) = section_at(src, counters_at, Section::COUNTERS) else {
         return false;
-    }
-    counters.next == src.len()
+    };
+    end == src.len()
 }

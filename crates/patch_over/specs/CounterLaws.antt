@@ -16,7 +16,7 @@ use Rattle.difference_scan.specs.Listing.{counter_bytes, as_is}
 use Rattle.difference_list.specs.SectionLaws.{put_keeps, counter_lent}
 use Rattle.patch_scan.specs.Outcome.{counters_over, all_counters_over}
 use Rattle.patch_scan.specs.Over.{Fitted, TooLong}
-use Rattle.patch_scan.specs.FittedLaws.{fitted}
+use Rattle.patch_scan.specs.FittedLaws.{fitted_in}
 
 -- ---- bytes written piece by piece
 -- how far bytes are written: with what is left they are all, begun at place `at` of the output
@@ -35,7 +35,7 @@ module _ {out₀ : List ℕ} {at : ℕ} {all out : List ℕ} {next : ℕ} {left 
   pub begun_done : left ≡ [] → Fitted out₀ at all out next
   begun_done e =
       let none : length left ≡ 0 = ap length e in
-      fitted out₀ at all out next (omega (arith, w.within, w.long, w.room)) (omega (arith, w.room)) (sym (ap (put out next) e ∙ put_nil out next) ∙ w.laid)
+      fitted_in out₀ at all out next (omega (arith, w.within, w.long, w.room)) (omega (arith, w.room)) (sym (ap (put out next) e ∙ put_nil out next) ∙ w.laid)
 
   -- what is left begins with the bytes x
   module _ (x more : List ℕ) (e : left ≡ x ++ more) where

@@ -22,7 +22,7 @@ use Rattle.difference_list.specs.SectionLaws.{section_long, front_laid}
 use Rattle.patch_scan.specs.Listed.{brought_by, over_run}
 use Rattle.patch_scan.specs.Outcome.{pointers_over}
 use Rattle.patch_scan.specs.Over.{is_bare, brought_at, piece_of, Fitted, TooLong}
-use Rattle.patch_scan.specs.FittedLaws.{fitted}
+use Rattle.patch_scan.specs.FittedLaws.{fitted_in}
 
 -- ---- what is returned
 -- what is said of it follows by cases
@@ -38,7 +38,7 @@ fitted_within out₀ at x out next w = omega (arith, w.place, w.long, w.room)
 -- no bytes are written
 pub nothing_fits : (out₀ : List ℕ) (at : ℕ) → at ≤ length out₀ → Fitted out₀ at (join []) out₀ at
 unfolding join
-nothing_fits out₀ at h = fitted out₀ at [] out₀ at (omega arith) (omega arith) (sym (put_nil out₀ at))
+nothing_fits out₀ at h = fitted_in out₀ at [] out₀ at (omega arith) (omega arith) (sym (put_nil out₀ at))
 
 -- ---- what a turn leaves
 module _ (p : Bool) (k : ℕ) (x y : List ℕ) where
@@ -90,7 +90,7 @@ module _ (out₀ : List ℕ) (at : ℕ) (es : List (List ℕ)) where
   section_fits out out' next count w many e =
       let long = section_long es in
       let room : at + length (section as_is es) ≤ length out₀ = omega (arith, long, w.room) in
-      fitted out₀ at (section as_is es) out' next room (omega (arith, long, w.place)) (front_laid es out₀ out out' at count room w.laid many e)
+      fitted_in out₀ at (section as_is es) out' next room (omega (arith, long, w.place)) (front_laid es out₀ out out' at count room w.laid many e)
 
 -- ---- the pointers, which follow the counters of a snapshot
 module _ (left list : List ℕ) (a b : ℕ) (p : Places) (s : At left a (drop counters_long left)) (r : RunsAt left a list b p) where
@@ -119,4 +119,4 @@ module _ (out₀ : List ℕ) (at : ℕ) (x y : List ℕ) where
     pub both_fit : (out' : List ℕ) (next' : ℕ) → Fitted out next y out' next' → Fitted out₀ at (x ++ y) out' next'
     both_fit out' next' v =
         let laid = put_next out₀ out out' at next x y w.room w.laid w.place v.laid in
-        fitted out₀ at (x ++ y) out' next' (omega (arith, v.room, w.place, w.long, length-append x y)) (omega (arith, v.place, w.place, length-append x y)) laid
+        fitted_in out₀ at (x ++ y) out' next' (omega (arith, v.room, w.place, w.long, length-append x y)) (omega (arith, v.place, w.place, length-append x y)) laid

@@ -78,11 +78,9 @@ pub fn lay_over(
     let mut count: usize = 0;
     while 0 < p.lefts + p.rights {
         let t = patch_scan::next_over(left, list, p, pointer);
-        let a = p.left;
-        let a_end = t.left;
-        let b = p.right;
-        let b_end = t.right;
-        let r = put_over(out, next, t.kind, pointer, &left[a..a_end], &list[b..b_end])?;
+        let x = &left[p.left..t.left];
+        let y = &list[p.right..t.right];
+        let r = put_over(out, next, t.kind, pointer, x, y)?;
         next = r.next;
         count += r.count;
         p = difference_list::advanced(p, t);

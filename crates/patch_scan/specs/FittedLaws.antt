@@ -12,5 +12,5 @@ unfolding join
 piece_long x = append-nil x
 
 -- bytes are written where there is room for them
-pub fitted : (out₀ : List ℕ) (at : ℕ) (bs out : List ℕ) (next : ℕ) → at + length bs ≤ length out₀ → next ≡ at + length bs → out ≡ put out₀ at bs → Fitted out₀ at bs out next
-fitted out₀ at bs out next h e f = record { room = h; long = ap length f ∙ length_put out₀ at bs h; place = e; laid = f }
+pub fitted_in : (out₀ : List ℕ) (at : ℕ) (bs out : List ℕ) (next : ℕ) → at + length bs ≤ length out₀ → next ≡ at + length bs → out ≡ put out₀ at bs → Fitted out₀ at bs out next
+fitted_in out₀ at bs out next h e f = record { room = h; long = ap length f ∙ length_put out₀ at bs h; place = e; laid = f }

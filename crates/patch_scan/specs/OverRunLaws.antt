@@ -23,7 +23,7 @@ use Rattle.patch_scan.specs.Listed.{kind_in, brought_by, after_listed, listed_by
 use Rattle.patch_scan.specs.Over.{over_kind, piece_of, listed_after, Fitted, TooLong}
 use Rattle.patch_scan.specs.Ends.{RunEnds}
 use Rattle.patch_scan.specs.OverLaws.{OverTurned, over_turned, each_none, over_none}
-use Rattle.patch_scan.specs.FittedLaws.{fitted}
+use Rattle.patch_scan.specs.FittedLaws.{fitted_in}
 
 -- the bytes between an entry's place and its end are the entry
 pub listed_lent : (p : Bool) (src : List ℕ) (at end : ℕ) → at ≤ end → At src end (after_listed p (drop at src)) → take (end - at) (drop at src) ≡ listed_bytes p (drop at src)
@@ -164,7 +164,7 @@ module _ (p : Bool) (left list : List ℕ) where
       let m : q.rights ≡ 0 = omega arith in
       let none : over_at q ≡ [] = ap (λ (k : ℕ). over_run p k (drop q.left left) q.rights (drop q.right list)) n ∙ ap (λ (k : ℕ). over_run p 0 (drop q.left left) k (drop q.right list)) m ∙ over_none p (drop q.left left) (drop q.right list) in
       let zero_long = none_length (over_at q) none in (
-        fitted out₀ at (join (over_at q₀)) out next (omega (arith, w.room, w.within, w.long)) (omega (arith, w.room)) (sym (none_laid (over_at q) none out next) ∙ w.laid),
+        fitted_in out₀ at (join (over_at q₀)) out next (omega (arith, w.room, w.within, w.long)) (omega (arith, w.room)) (sym (none_laid (over_at q) none out next) ∙ w.laid),
         omega (arith, w.number, ap length none),
         record {
           at_left = record { within = w.in_left; rest = sym (ap (λ (k : ℕ). after_all p k (drop q.left left)) n ∙ all_none p (drop q.left left)) ∙ w.after_left };

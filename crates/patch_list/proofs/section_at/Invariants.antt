@@ -1,7 +1,7 @@
--- The loop of `section_at`: what is left of the section decides.
+-- The loop of `section_at`: what is left of the section decides. Assumes nothing.
 use Rattle.std.proofs.Common.{◌-◌}
 use Rattle.patch_list.specs.TurnLaws.{Left}
 use Rattle.patch_list.proofs.section_at.Given as goal
 
 abbrev pub invariant-loop : goal.invariant-loop
-invariant-loop l = Left l.section l.src l.at (l.n - l.counter) l.last
+invariant-loop l = Left l.section l.src l.at (l.n - l.counter) l.next l.last
