@@ -24,3 +24,4 @@ pub mod Rising
 pub mod CompareLaws
 pub mod OverlayLaws
 pub mod Runs
+pub mod Listed

@@ -29,14 +29,8 @@ pub fn list_of(files: [FileRecord; Version::ROOM], from: usize, to: usize) -> Fi
     ensures { result ≡ list_of (run from to files) }
 {
     let mut out = records::blanks();
-    let mut n: usize = 0;
-    let mut i = from;
-    while i < to {
-        let f = files[i];
-        out[n] = f;
-        n += 1;
-        i += 1;
-    }
+    let n = to - from;
+    out[..n].copy_from_slice(&files[from..to]);
     FileList {
         files: out,
         count: n,

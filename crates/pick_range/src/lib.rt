@@ -11,7 +11,7 @@ ghost use Rattle.records.specs.Record.{file_of};
 ghost use Rattle.records.specs.Run.{run};
 ghost use Rattle.pick_range.specs.Ranges.{span_of, span_record};
 
-use keys::{Key, UserKey, Word};
+use keys::{Key, UserKey};
 use records::{FileRecord, Version};
 
 // A range of user keys. Start after stop is allowed.
@@ -51,15 +51,9 @@ pub fn overlaps(span: Span, f: FileRecord) -> bool
 pub fn has_overlap(files: [FileRecord; Version::ROOM], from: usize, to: usize, span: Span) -> bool
     ensures { result ≡ any (model.overlaps (span_of span)) (run from to files) }
 {
-    let end = records::within(to);
-    let mut i = from;
-    while i < end {
-        if overlaps(span, files[i]) {
-            return true;
-        }
-        i += 1;
-    }
-    false
+    records::part(&files, from, to)
+        .iter()
+        .any(|f| overlaps(span, *f))
 }
 
 // The bytes of the files of a run that overlap a range, or the largest u64 if they are more. Internal.
@@ -71,20 +65,10 @@ pub fn overlapping_bytes(
 ) -> u64
     ensures { result ≡ min (total (keep (model.overlaps (span_of span)) (run from to files))) max_word }
 {
-    let end = records::within(to);
-    let mut s: u64 = 0;
-    let mut i = from;
-    while i < end {
-        let f = files[i];
-        if overlaps(span, f) {
-            if Word::LARGEST - s < f.size {
-                return Word::LARGEST;
-            }
-            s += f.size;
-        }
-        i += 1;
-    }
-    s
+    records::part(&files, from, to)
+        .iter()
+        .filter(|f| overlaps(span, **f))
+        .fold(0u64, |s, f| s.saturating_add(f.size))
 }
 
 // Whether a file overlaps a range and does not lie inside.
@@ -142,14 +126,11 @@ pub fn widened(files: [FileRecord; Version::ROOM], from: usize, end: usize, span
     let mut settled = false;
     while !settled {
         settled = true;
-        let mut i = from;
-        while i < end {
-            let f = files[i];
-            if sticks_out(wide, f) {
-                wide = stretch(wide, f);
+        for f in records::part(&files, from, end) {
+            if sticks_out(wide, *f) {
+                wide = stretch(wide, *f);
                 settled = false;
             }
-            i += 1;
         }
     }
     wide

@@ -87,20 +87,6 @@ fn is_well_formed_pointer(p: Pointer) -> bool
     if p.set { keys::is_good(k) } else { k.len == 0 }
 }
 
-// Whether every pointer is well-formed.
-fn are_well_formed_pointers(pointers: [Pointer; Level::COUNT]) -> bool
-    ensures { result ≡ all well_pointer pointers }
-{
-    let mut i: usize = 0;
-    while i < Level::COUNT {
-        if !is_well_formed_pointer(pointers[i]) {
-            return false;
-        }
-        i += 1;
-    }
-    true
-}
-
 // Whether a store is well-formed, by its counters, its pointers and the survey of its levels. Requires: the survey has no more files than the room.
 fn passes(five: Counters, pointers: [Pointer; Level::COUNT], v: Surveyed) -> bool
     requires { v.total ≤ max_files }
@@ -109,7 +95,7 @@ fn passes(five: Counters, pointers: [Pointer; Level::COUNT], v: Surveyed) -> boo
     if !counters::are_bounded(five) {
         return false;
     }
-    if !are_well_formed_pointers(pointers) {
+    if !pointers.iter().all(|p| is_well_formed_pointer(*p)) {
         return false;
     }
     levels::are_well_formed(v)

@@ -1,9 +1,10 @@
 -- `levels::survey` meets its contract: the first record that is not well-formed, out of order or not blank decides, and else all is told. Assumes nothing.
-use Rattle.std.proofs.Common.{◌≡◌, ℕ, ◌+◌, ◌-◌, ◌≤◌, ◌<◌, min, Bool, List, [], ◌∷◌, length, get_or, take, drop, replicate, length-set, length-drop, true, false, ◌&&◌, refl, sym, ap, ◌∙◌, rules, tests, arith}
+use Rattle.std.proofs.Common.{◌≡◌, ℕ, ◌+◌, ◌-◌, ◌≤◌, ◌<◌, min, List, length, get_or, take, drop, replicate, length-set, length-drop, true, false, ◌&&◌, refl, sym, ap, ◌∙◌, rules, tests, arith}
 use Rattle.std.proofs.Math.Seq.{slice, take-length}
 use Rattle.std.proofs.lemmas.Iterator.{YieldsList-from_slice}
 use Rattle.std.proofs.lemmas.Iterator.Search.{all_from_yields_List}
 use Rattle.std.specs.List.{list_all}
+use Rattle.lemmas.specs.Listed.{all_listed}
 use Rattle.lemmas.specs.Lists.{all, sum}
 use Rattle.lemmas.specs.Slices.{put, put_cons, put_nil, run_past, sum_turn, sum_over}
 use Rattle.lemmas.specs.Loops.{all_found, all_passed}
@@ -18,12 +19,6 @@ use Rattle.levels.specs.Levels.{levels_of, well_levels, arranged, unarranged, su
 use Rattle.levels.specs.LevelsLaws.{too_many_lem, arranged_is, survey_none, survey_is, survey_well, order_passed, order_failed, order_ended, next_follows, next_fails, level_ordered, last_fails, bytes_turn, bytes_over, bytes_start, size_bound}
 use Rattle.levels.proofs.survey.Goals as goal
 use Rattle.levels.proofs.survey.Goals.{else-from-i-via-then-from-i+else-not-may_follow, else-from-i-via-else-from-i}
-
--- the library's word for a test of all
-same : {A : Type 0} (p : A → Bool) (l : List A) → list_all p l ≡ all p l
-unfolding all
-same p [] = refl
-same p (x ∷ l) = rw (same p l)
 
 -- what is known of the array and of the counts
 module _ (files : List FileRecord) (counts : List ℕ) (q : length files ≡ max_files) (k : length counts ≡ level_count) (w : AllWords files) where
@@ -185,7 +180,7 @@ returns-then-not-all c =
     let k : length a.counts ≡ level_count = search rules in
     let over = sum_over a.counts c.loop-level.level (omega arith) in
     let e : c.all.result ≡ list_all is_blank (take (max_files - n) (drop n a.files)) = all_from_yields_List is_blank _ _ c.all.result c.all.ensures.ran (YieldsList-from_slice (take (max_files - n) (drop n a.files)) cc) (λ x b p k. search (rules, tests)) in
-    let some : all is_blank (drop n a.files) ≡ false = rw (to_end a.files n q) at (sym (same is_blank (take (max_files - n) (drop n a.files))) ∙ sym e ∙ c.if-not-all.true) in
+    let some : all is_blank (drop n a.files) ≡ false = rw (to_end a.files n q) at (sym (all_listed is_blank (take (max_files - n) (drop n a.files))) ∙ sym e ∙ c.if-not-all.true) in
     let passed = none_left a.files c.loop-level.to n (omega arith) c.loop-level.invariant.well in
     unseen a.files a.counts q k (all_words max_files a.files _ c.well_formed.0) n c.counted-n.ensures (omega arith) c.nothing_seen-then-not-all.result c.nothing_seen-then-not-all.ensures (rw (passed, some))
 
@@ -200,7 +195,7 @@ returns c =
     let w = all_words max_files a.files _ c.well_formed.0 in
     let over = sum_over a.counts l.level (omega arith) in
     let e : c.all.result ≡ list_all is_blank (take (max_files - n) (drop n a.files)) = all_from_yields_List is_blank _ _ c.all.result c.all.ensures.ran (YieldsList-from_slice (take (max_files - n) (drop n a.files)) cc) (λ x b p k. search (rules, tests)) in
-    let blank : all is_blank (drop n a.files) ≡ true = rw (to_end a.files n q) at (sym (same is_blank (take (max_files - n) (drop n a.files))) ∙ sym e ∙ c.if-not-all.false) in
+    let blank : all is_blank (drop n a.files) ≡ true = rw (to_end a.files n q) at (sym (all_listed is_blank (take (max_files - n) (drop n a.files))) ∙ sym e ∙ c.if-not-all.false) in
     let passed = none_left a.files l.to n (omega arith) g.well in
     let order = sym g.order ∙ order_ended a.files a.counts l.level l.to (omega arith) in
     let none = numbers_ended l.to n a.files (omega arith) in

@@ -1,7 +1,6 @@
 -- `pick_range::sticks_out` meets its contract. Assumes nothing.
 use mathlib.Core.Path.{◌≡◌, sym, ◌∙◌}
 use mathlib.Core.Bool.{true}
-use borrow.Author.Tests.{not-true, not-false}
 use Rattle.model.specs.Range.{overlaps}
 use Rattle.records.specs.Record.{file_of}
 use Rattle.pick_range.specs.Ranges.{span_of}

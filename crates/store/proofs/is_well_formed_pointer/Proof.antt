@@ -1,7 +1,6 @@
 -- `store::is_well_formed_pointer` meets its contract. Assumes nothing.
 use mathlib.Core.Path.{sym, ◌∙◌}
 use borrow.Author.Rules.{rules}
-use borrow.Author.Tests.{not-true, not-false}
 use Rattle.store.specs.StoreLaws.{pointer_unsound, pointer_set, pointer_unset}
 use Rattle.store.proofs.is_well_formed_pointer.Statement.{statement}
 use Rattle.store.proofs.is_well_formed_pointer.Tie as tie
