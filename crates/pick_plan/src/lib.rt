@@ -7,7 +7,7 @@ ghost use Rattle.model.specs.Key.{before};
 ghost use Rattle.model.specs.Pick as model;
 ghost use Rattle.model.specs.File.{full, level_count, max_files};
 ghost use Rattle.keys.specs.Key.{key_of};
-ghost use Rattle.pick_plan.specs.Starts.{one_found, limit_of, search_of, started_by, places_of, nearer_by, start_among, first_after, Starts};
+ghost use Rattle.pick_plan.specs.Starts.{one_found, limit_of, search_of, started_by, places_of, start_among, first_after, Starts};
 ghost use Rattle.pick_plan.specs.Plans.{SizePlanned, RangePlanned, pointers_by, Plans};
 ghost use Rattle.store.specs.Store.{well_store, look_of, on_store, StoreShape};
 
@@ -65,33 +65,20 @@ fn start_places(counts: [usize; Level::COUNT], level: usize, due: bool) -> Windo
     }
 }
 
-// The places that are left after the first file f is seen, in a search for the first file after a key: none if f is that file. Requires: a place is left, and the
-// places are within the room.
-fn nearer(p: Window, key: Key, f: FileRecord) -> Window
-    requires { (p.lo < p.hi) × (p.hi ≤ max_files) }
-    ensures { result ≡ nearer_by p (before (key_of key) (key_of f.largest)) }
-{
-    if keys::is_before(key, f.largest) {
-        return Window { lo: p.lo, hi: p.lo };
-    }
-    Window {
-        lo: p.lo + 1,
-        hi: p.hi,
-    }
-}
-
 // The first place whose file's largest key is after a key, or the end of the places. Requires: the store has its shape, and the places are in order and within the
 // room.
 fn first_after(s: &Store, p: Window, key: Key) -> usize
     requires { StoreShape s.now × (p.lo ≤ p.hi) × (p.hi ≤ max_files) }
     ensures { result ≡ first_after (key_of key) p s.now.files }
 {
-    let mut q = p;
-    while q.lo < q.hi {
-        let f = store::file_at(s, q.lo);
-        q = nearer(q, key, f);
+    for at in p.lo..p.hi {
+        let f = store::file_at(s, at);
+        let after = keys::is_before(key, f.largest);
+        if after {
+            return at;
+        }
     }
-    q.lo
+    p.hi
 }
 
 // The place to start with: i if there is a pointer and i is one of the places, else the first place. 0 if there are no places.
