@@ -34,10 +34,8 @@ pub fn put(out: &mut [u8], at: usize, text: &[u8]) -> usize
     ensures { Laid out.old at text.now out.new result }
 {
     let mut to = at;
-    let mut i: usize = 0;
-    while i < text.len() {
-        to = put_byte(out, to, text[i]);
-        i += 1;
+    for b in text {
+        to = put_byte(out, to, *b);
     }
     to
 }
@@ -72,12 +70,9 @@ pub fn put_hex(out: &mut [u8], at: usize, bytes: &[u8]) -> usize
         return put_byte(out, at, b'-');
     }
     let mut to = at;
-    let mut i: usize = 0;
-    while i < bytes.len() {
-        let b = bytes[i];
-        to = put_byte(out, to, hex_digit(b / 16));
-        to = put_byte(out, to, hex_digit(b % 16));
-        i += 1;
+    for b in bytes {
+        to = put_byte(out, to, hex_digit(*b / 16));
+        to = put_byte(out, to, hex_digit(*b % 16));
     }
     to
 }

@@ -1,6 +1,6 @@
 -- The run of a part, from what the code has found of it. Assumes nothing.
-use Rattle.std.specs.Prelude.{ℕ, zero, suc, ◌-◌, ◌≤◌, ◌<◌, ◌≡◌, refl, List}
-use Rattle.std.proofs.Common.{sym, ap, ◌∙◌, arith}
+use Rattle.std.specs.Prelude.{ℕ, zero, suc, ◌-◌, ◌<◌, ◌≡◌, List}
+use Rattle.std.proofs.Common.{ap, ◌∙◌, arith}
 use Rattle.script_parts.specs.declared.Parts.{Parts}
 use Rattle.script_parts.specs.declared.Run.{Run}
 use Rattle.script_parts.specs.Parts.{next_end, start_after, part_end, part_start, run_of}

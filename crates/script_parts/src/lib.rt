@@ -55,11 +55,9 @@ fn part_end(line: &[u8], p: Parts, i: usize) -> usize
     ensures { result ≡ part_end line.now p i }
 {
     let mut end = end_of(line, p, p.from);
-    let mut k: usize = 0;
-    while k < i {
+    for _ in 0..i {
         let from = start_after(p, end);
         end = end_of(line, p, from);
-        k += 1;
     }
     end
 }

@@ -1,4 +1,6 @@
 -- Hex digits laid as bytes: what the loop says at each turn and at its end. Assumes nothing.
+use Rattle.std.proofs.Math.Decide.{dec_lt}
+use Rattle.std.proofs.Common.{min}
 use Rattle.std.specs.Prelude.{ℕ, ◌+◌, ◌-◌, ◌*◌, ◌/◌, ◌≤◌, ◌<◌, ◌≡◌, List, length, get_or, take, set}
 use Rattle.std.proofs.Common.{sym, ap, ◌∙◌, arith, add-one, take-suc, take-suc-set, take_all}
 use Rattle.script_words.specs.Words.{hex_byte, hex_bytes}
@@ -24,3 +26,11 @@ module _ (line : List ℕ) (from to : ℕ) where
   pub hex_full : (out : List ℕ) (i : ℕ) → length out ≤ i → i ≤ length out → take i out ≡ take i (hex_bytes line from to)
       → take i out ≡ take (length out) (hex_bytes line from to)
   hex_full out i h g e = let q : i ≡ length out = omega arith in e ∙ ap (λ (n : ℕ). take n (hex_bytes line from to)) q
+
+  -- as many as there are digits for, and room
+  pub hex_done : (out : List ℕ) (n : ℕ) → n ≡ min ((to - from) / 2) (length out) → take n out ≡ take n (hex_bytes line from to) → take n out ≡ take (length out) (hex_bytes line from to)
+  hex_done out n h e = go (dec_lt n (length out))
+    where
+      go : Dec (n < length out) → take n out ≡ take (length out) (hex_bytes line from to)
+      go (yes k) = hex_over out n (omega arith) (omega arith) e
+      go (no k) = hex_full out n (omega arith) (omega arith) e

@@ -44,14 +44,12 @@ pub fn byte_at(line: &[u8], i: usize) -> u8
 pub fn place_of(line: &[u8], from: usize, to: usize, b: u8) -> usize
     ensures { result ≡ from + before_first (is_byte b) (word_of line.now from to) }
 {
-    let mut i = from;
-    while i < to {
+    for i in from..to {
         if byte_at(line, i) == b {
             return i;
         }
-        i += 1;
     }
-    i
+    from.max(to)
 }
 
 // The last place of a run that holds a byte, or its end.
@@ -59,12 +57,10 @@ fn last_place_of(line: &[u8], from: usize, to: usize, b: u8) -> usize
     ensures { result ≡ last_place b from to (word_of line.now from to) }
 {
     let mut found = to;
-    let mut i = from;
-    while i < to {
+    for i in from..to {
         if byte_at(line, i) == b {
             found = i;
         }
-        i += 1;
     }
     found
 }
@@ -73,19 +69,16 @@ fn last_place_of(line: &[u8], from: usize, to: usize, b: u8) -> usize
 pub fn is_word(line: &[u8], from: usize, to: usize, text: &[u8]) -> bool
     ensures { result ≡ same (word_of line.now from to) text.now }
 {
-    let mut i: usize = 0;
-    let mut at = from;
-    while i < text.len() {
+    for (i, b) in text.iter().enumerate() {
+        let at = from + i;
         if to <= at {
             return false;
         }
-        if byte_at(line, at) != text[i] {
+        if byte_at(line, at) != *b {
             return false;
         }
-        at += 1;
-        i += 1;
     }
-    to <= at
+    to <= from + text.len()
 }
 
 // A number with one digit more, or none if that is above the largest u64.
@@ -132,8 +125,7 @@ pub fn number(line: &[u8], from: usize, to: usize) -> NumberWord
         fine: true,
         value: 0,
     };
-    let mut i = from;
-    while i < to {
+    for i in from..to {
         let c = byte_at(line, i);
         if c < b'0' {
             return no_number();
@@ -145,7 +137,6 @@ pub fn number(line: &[u8], from: usize, to: usize) -> NumberWord
         if !n.fine {
             return n;
         }
-        i += 1;
     }
     n
 }
@@ -192,12 +183,10 @@ pub fn is_hex(line: &[u8], from: usize, to: usize) -> bool
     if (to - from) % 2 != 0 {
         return false;
     }
-    let mut i = from;
-    while i < to {
+    for i in from..to {
         if 15 < hex_digit(byte_at(line, i)) {
             return false;
         }
-        i += 1;
     }
     true
 }
@@ -224,20 +213,11 @@ pub fn hex_byte(line: &[u8], at: usize) -> u8
 pub fn lay_hex(line: &[u8], from: usize, to: usize, out: &mut [u8]) -> usize
     ensures { (result ≤ length out.new) × (take result out.new ≡ take (length out.new) (hex_bytes line.now from to)) }
 {
-    let mut i: usize = 0;
-    let mut at = from;
-    while at < to {
-        if to - at < 2 {
-            return i;
-        }
-        if out.len() <= i {
-            return i;
-        }
-        out[i] = hex_byte(line, at);
-        at += 2;
-        i += 1;
+    let n = (run_length(from, to) / 2).min(out.len());
+    for (i, b) in out[..n].iter_mut().enumerate() {
+        *b = hex_byte(line, from + 2 * i);
     }
-    i
+    n
 }
 
 // How many bytes a run has.
@@ -258,10 +238,8 @@ fn low_byte(x: u64, width: usize, i: usize) -> u8
         return 0;
     }
     let mut y = x;
-    let mut j: usize = 0;
-    while j < i {
-        y = y / 256;
-        j += 1;
+    for _ in 0..i {
+        y /= 256;
     }
     (y % 256) as u8
 }
@@ -293,10 +271,8 @@ fn record_of_text(line: &[u8], from: usize, to: usize, x: u64, width: usize) -> 
     ensures { result ≡ forty (word_of line.now from to ++ little width x) }
 {
     let mut out = [0u8; Key::ROOM];
-    let mut i: usize = 0;
-    while i < Key::ROOM {
-        out[i] = text_byte(line, from, to, x, width, i);
-        i += 1;
+    for (i, b) in out.iter_mut().enumerate() {
+        *b = text_byte(line, from, to, x, width, i);
     }
     out
 }
@@ -306,10 +282,8 @@ fn record_of_hex(line: &[u8], from: usize, to: usize) -> [u8; Key::ROOM]
     ensures { result ≡ forty (hex_bytes line.now from to) }
 {
     let mut out = [0u8; Key::ROOM];
-    let mut i: usize = 0;
-    while i < Key::ROOM {
-        out[i] = digits_byte(line, from, to, i);
-        i += 1;
+    for (i, b) in out.iter_mut().enumerate() {
+        *b = digits_byte(line, from, to, i);
     }
     out
 }
@@ -407,11 +381,7 @@ fn front(bytes: [u8; Key::ROOM]) -> [u8; UserKey::ROOM]
     ensures { result ≡ take longest_user bytes }
 {
     let mut out = [0u8; UserKey::ROOM];
-    let mut i: usize = 0;
-    while i < UserKey::ROOM {
-        out[i] = bytes[i];
-        i += 1;
-    }
+    out.copy_from_slice(&bytes[..UserKey::ROOM]);
     out
 }
 

@@ -1,6 +1,5 @@
 -- `script_parts::key` meets its contract. Assumes nothing.
-use Prim.Native.Nat.{ℕ}
-use mathlib.Core.Path.{◌≡◌, ap, ◌∙◌}
+use mathlib.Core.Path.{ap, ◌∙◌}
 use Rattle.script_parts.specs.declared.Run.{Run}
 use Rattle.script_words.specs.Words.{internal_key}
 use borrow.Author.Rules.{rules}

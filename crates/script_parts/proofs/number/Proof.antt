@@ -1,6 +1,5 @@
 -- `script_parts::number` meets its contract. Assumes nothing.
-use Prim.Native.Nat.{ℕ}
-use mathlib.Core.Path.{◌≡◌, ap, ◌∙◌}
+use mathlib.Core.Path.{ap, ◌∙◌}
 use Rattle.script_parts.specs.declared.Run.{Run}
 use Rattle.script_words.specs.Words.{word_of, number_word}
 use borrow.Author.Rules.{rules}

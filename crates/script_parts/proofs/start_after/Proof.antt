@@ -1,5 +1,4 @@
 -- `script_parts::start_after` meets its contract. Assumes nothing.
-use mathlib.Core.Path.{◌≡◌}
 use borrow.Author.Tests.{lt-ltb, le-ltb}
 use Rattle.script_parts.specs.Parts.{start_after}
 use borrow.Author.Rules.{rules}

@@ -1,9 +1,8 @@
 -- `script_words::internal_key` meets its contract. By the three forms of a key. Assumes nothing.
-use Prim.Native.Nat.{◌-◌, ◌/◌}
+use Prim.Native.Nat.{◌/◌}
 use mathlib.Core.Path.{sym, ◌∙◌}
 use native.Mathlib.Omega.{arith}
 use borrow.Author.Rules.{rules}
-use borrow.Author.Tests.{not-true, not-false}
 use Rattle.lemmas.specs.Lists.{up_from}
 use Rattle.script_words.specs.Words.{hex_bytes, fine_key, forty}
 use Rattle.script_words.specs.WordLaws.{key_none, key_text, key_hex, key_bad, hex_bytes_length, fine_key_is}

@@ -1,5 +1,4 @@
 -- `script_words::trailer_of` meets its contract. By the test of the sequence. Assumes nothing.
-use Prim.Native.Nat.{◌-◌}
 use mathlib.Core.Path.{sym, ◌∙◌}
 use borrow.Author.Rules.{rules}
 use borrow.Author.Tests.{not-true, not-false}

@@ -1,5 +1,4 @@
 -- `script_words::trailer_word` meets its contract. By the last byte. Assumes nothing.
-use Prim.Native.Nat.{◌-◌}
 use mathlib.Core.Path.{sym, ◌∙◌}
 use borrow.Author.Rules.{rules}
 use Rattle.script_words.specs.WordLaws.{trailer_empty, trailer_deleted, trailer_put}
