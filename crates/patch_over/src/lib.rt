@@ -76,6 +76,7 @@ pub fn lay_over(
     let mut p = from;
     let mut next = at;
     let mut count: usize = 0;
+    // Two runs merged by turns: what is read next is found in the body.
     while 0 < p.lefts + p.rights {
         let t = patch_scan::next_over(left, list, p, pointer);
         let x = &left[p.left..t.left];
@@ -132,8 +133,7 @@ fn lay_levels(
     let mut list_at = b;
     let mut rest = m;
     let mut next = at;
-    let mut level: usize = 0;
-    while level < Level::COUNT {
+    for level in 0..Level::COUNT {
         let n = snapshot_parse::get_number(left, left_at, Snapshot::COUNT);
         let start = snapshot_parse::after(left, left_at, Snapshot::COUNT);
         let r = patch_scan::run_long(list, list_at, rest, level);
@@ -148,7 +148,6 @@ fn lay_levels(
         list_at = made.list;
         next = made.next;
         rest -= r;
-        level += 1;
     }
     Some(next)
 }
@@ -177,8 +176,7 @@ fn lay_counters(left: &[u8], list: &[u8], b: usize, out: &mut [u8], at: usize) -
     let mut rest = snapshot_parse::get_number(list, b, Snapshot::COUNT);
     let mut list_at = snapshot_parse::after(list, b, Snapshot::COUNT);
     let mut next = at + Snapshot::COUNT;
-    let mut i: usize = 0;
-    while i < Snapshot::FIVE {
+    for i in 0..Snapshot::FIVE {
         let place = snapshot_parse::get_number(list, list_at, Snapshot::BYTE);
         let named = 0 < rest && place == i as u64;
         let y = snapshot_parse::after(list, list_at, Snapshot::BYTE);
@@ -190,7 +188,6 @@ fn lay_counters(left: &[u8], list: &[u8], b: usize, out: &mut [u8], at: usize) -
             rest -= 1;
             list_at = y_end;
         }
-        i += 1;
     }
     Some(next)
 }

@@ -1,11 +1,6 @@
 -- The loop's invariant: what is written, with the counters that are left, is all. Assumes nothing.
-use Rattle.std.proofs.Common.{◌-◌}
-use Rattle.model.specs.Snapshot.{counter_count}
 use Rattle.patch_over.specs.CounterLaws.{CountersWritten}
 use Rattle.patch_over.proofs.lay_counters.Given as goal
 
 abbrev pub invariant-loop-i : goal.invariant-loop-i
 invariant-loop-i l = CountersWritten l.left l.list l.initial.out l.initial.next l.initial.rest l.initial.list_at l.out l.rest l.list_at l.next l.i
-
-abbrev pub decreases-loop-i : goal.decreases-loop-i
-decreases-loop-i l = counter_count - l.i
