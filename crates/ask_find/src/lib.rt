@@ -61,6 +61,7 @@ pub fn search(files: &[FileRecord], k: Key) -> usize
         lo: 0,
         hi: files.len(),
     };
+    // A search by halves: both ends of the window move.
     while s.lo < s.hi {
         s = probe(files, k, s);
     }
@@ -82,11 +83,7 @@ pub fn gather(files: &[FileRecord]) -> FileList
     let n = files.len();
     let stop = records::within(n);
     let mut out = records::blanks();
-    let mut i: usize = 0;
-    while i < stop {
-        out[i] = nth(files, i);
-        i += 1;
-    }
+    out[..stop].copy_from_slice(&files[..stop]);
     FileList {
         files: out,
         count: n,
@@ -98,15 +95,10 @@ fn scan(files: [FileRecord; Version::ROOM], n: usize, k: Key) -> usize
     requires { n ≤ max_files }
     ensures { result ≡ passed (key_of k) (run 0 n files) }
 {
-    let mut i: usize = 0;
-    while i < n {
-        let f = files[i];
-        if !keys::is_before(f.largest, k) {
-            return i;
-        }
-        i += 1;
-    }
-    i
+    files[..n]
+        .iter()
+        .take_while(|f| keys::is_before(f.largest, k))
+        .count()
 }
 
 // The index, or nowhere if it is past the end.

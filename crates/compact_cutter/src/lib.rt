@@ -56,14 +56,12 @@ fn counts_up_to(c: Picked, place: usize, count: u64) -> bool
     ensures { result ≡ counts_up_to (picked_of c).grand place count }
 {
     let from = c.first + c.second;
-    let mut i = from + place;
     let mut sum: u64 = 0;
-    while from < i {
+    for f in c.files[from..from + place].iter().rev() {
         if sum == count {
             return true;
         }
-        i -= 1;
-        sum += c.files[i].size;
+        sum += f.size;
     }
     sum == count
 }
@@ -95,22 +93,17 @@ fn pass(c: Picked, place: usize, k: Key) -> Passing
     ensures { result ≡ passing_from place (picked_of c).grand (key_of k) }
 {
     let from = c.first + c.second;
-    let mut at = place;
     let mut bytes: u64 = 0;
-    while at < c.grand {
+    for at in place..c.grand {
         let f = c.files[from + at];
         if !keys::is_before(f.largest, k) {
-            return Passing {
-                place: at,
-                bytes: bytes,
-            };
+            return Passing { place: at, bytes };
         }
         bytes += f.size;
-        at += 1;
     }
     Passing {
-        place: at,
-        bytes: bytes,
+        place: c.grand,
+        bytes,
     }
 }
 

@@ -24,16 +24,12 @@ fn lay_deletions(
     requires { at + length numbers.now ≤ max_deletions }
     ensures { result ≡ put out at (map (deletion_at level) numbers.now) }
 {
-    let n = numbers.len();
     let mut deletions = out;
-    let mut i: usize = 0;
-    while i < n {
-        let d = Deletion {
-            level: level,
-            number: FileNumber(numbers[i]),
+    for (i, number) in numbers.iter().enumerate() {
+        deletions[at + i] = Deletion {
+            level,
+            number: FileNumber(*number),
         };
-        deletions[at + i] = d;
-        i += 1;
     }
     deletions
 }
@@ -77,11 +73,7 @@ fn fill_levels(out: &mut [usize], at: usize, n: usize, level: usize)
     requires { at + n ≤ length out.old }
     ensures { out.new ≡ put out.old at (replicate n level) }
 {
-    let mut i: usize = 0;
-    while i < n {
-        out[at + i] = level;
-        i += 1;
-    }
+    out[at..at + n].fill(level);
 }
 
 // Writes numbers over the front of a list. Requires: there is room for them.
@@ -89,12 +81,7 @@ fn lay_numbers(out: &mut [u64], numbers: &[u64])
     requires { length numbers.now ≤ length out.old }
     ensures { out.new ≡ put out.old 0 numbers.now }
 {
-    let n = numbers.len();
-    let mut i: usize = 0;
-    while i < n {
-        out[i] = numbers[i];
-        i += 1;
-    }
+    out[..numbers.len()].copy_from_slice(numbers);
 }
 
 // Writes the deletions of both input lists into two lent columns, levels and numbers, in order, first inputs first.

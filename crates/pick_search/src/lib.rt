@@ -273,6 +273,7 @@ fn passed(s: &Store, q: Question) -> usize
         lo: q.from,
         hi: q.to,
     };
+    // A search by halves: both ends of the window move.
     while p.lo < p.hi {
         let f = store::file_at(s, bisect::middle(p));
         p = narrowed(p, start, f);
@@ -359,6 +360,7 @@ pub fn taken(s: &Store, q: Question, a: FoundRun, edge: bool) -> FoundRun
     ensures { Takes s.now.files q edge a result }
 {
     let mut w = sweeping(a, q, edge);
+    // The file that a turn reads decides whether the search goes on.
     while w.goes {
         let f = store::file_at(s, next_place(w));
         w = swept(w, q, edge, f);
@@ -445,10 +447,8 @@ pub fn choose(s: &Store, c: Choice, start: usize) -> Choice
     ensures { Chooses s.now c start result }
 {
     let mut d = c;
-    let mut k = start;
-    while k < Choice::SEARCHES {
+    for k in start..Choice::SEARCHES {
         d = searched(s, d, k);
-        k += 1;
     }
     d
 }
@@ -491,10 +491,8 @@ pub fn laid(s: &Store, c: Choice) -> [FileRecord; Version::ROOM]
 {
     let runs = runs_of(c);
     let mut out = records::blanks();
-    let mut j: usize = 0;
-    while j < runs.three {
+    for j in 0..runs.three {
         out[j] = store::file_at(s, place_of(runs, j));
-        j += 1;
     }
     out
 }

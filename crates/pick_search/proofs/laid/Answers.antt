@@ -38,11 +38,6 @@ bounds-out-j c =
     let few = subst (λ (r : Runs). c.loop-j.j < r.three) c.runs_of-runs.ensures c.loop-j-test.true in
     omega (arith, few, three_room c.args.s.now c.args.c c.requires.1 c.requires.2)
 
-pub loop-j-smaller : goal.loop-j-smaller
-loop-j-smaller c =
-    let few = subst (λ (r : Runs). c.loop-j.j < r.three) c.runs_of-runs.ensures c.loop-j-test.true in
-    omega (arith, few)
-
 pub loop-j-preserved : goal.loop-j-preserved
 loop-j-preserved c =
     let few = subst (λ (r : Runs). c.loop-j.j < r.three) c.runs_of-runs.ensures c.loop-j-test.true in
