@@ -53,14 +53,11 @@ fn holding(files: [FileRecord; Version::ROOM], n: usize, u: UserKey) -> Column
 {
     let mut out = [0u64; Version::ROOM];
     let mut count: usize = 0;
-    let mut i: usize = 0;
-    while i < n {
-        let f = files[i];
-        if is_held(f, u) {
+    for f in &files[..n] {
+        if is_held(*f, u) {
             out[count] = Word::LARGEST - f.number.0;
             count += 1;
         }
-        i += 1;
     }
     Column {
         numbers: out,
@@ -75,12 +72,8 @@ pub fn lay_rising(numbers: &[u64], out: &mut [u64])
     ensures { out.new ≡ put out.old 0 (sort ltb numbers.now) }
 {
     let places = sorting::by_number(numbers);
-    let n = numbers.len();
-    let mut j: usize = 0;
-    while j < n {
-        let p = places[j];
-        out[j] = numbers[p];
-        j += 1;
+    for (j, p) in places[..numbers.len()].iter().enumerate() {
+        out[j] = numbers[*p];
     }
 }
 
@@ -89,10 +82,8 @@ fn flip_front(out: &mut [u64], n: usize)
     requires { n ≤ length out.old }
     ensures { out.new ≡ put out.old 0 (map flip (take n out.old)) }
 {
-    let mut j: usize = 0;
-    while j < n {
-        out[j] = Word::LARGEST - out[j];
-        j += 1;
+    for x in out[..n].iter_mut() {
+        *x = Word::LARGEST - *x;
     }
 }
 
