@@ -8,4 +8,4 @@ pub returns-then-m : goal.returns-then-m
 returns-then-m c = c.user_key_is_before.ensures ∙ sym (before_asked c.args.m (user_of c.args.u) c.if-m.true)
 
 pub returns-else-m : goal.returns-else-m
-returns-else-m c = sym (none_asked c.args.m (user_of c.args.u) c.if-m.false)
+returns-else-m c = c.if-m.false ∙ sym (none_asked c.args.m (user_of c.args.u) c.if-m.false)
