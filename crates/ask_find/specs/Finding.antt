@@ -1,18 +1,18 @@
 -- The answer of a call on a lent list of one level, and the search by halves. Assumes nothing.
-use Rattle.std.specs.Prelude.{ℕ, ◌+◌, ◌-◌, ◌/◌, ◌≡◌, Bool, true, ◌&&◌, cond, ltb, leb, length, get_or, take}
+use Rattle.std.specs.Prelude.{ℕ, ◌≡◌, Bool, true, ◌&&◌, cond, ltb, leb, length, get_or, take, Option, Some, None, Result}
 use mathlib.Core.List.{List, map, Memᴰ as In}
-use Rattle.std.proofs.Math.Option.{Option, none, some}
+use Rattle.std.proofs.Math.Option as math
 use Rattle.lemmas.specs.Lists.{all}
 use Rattle.lemmas.specs.Slices.{put}
 use Rattle.lemmas.specs.Bisect.{bisect}
-use Rattle.model.specs.Answer.{Answer, gives, refused}
+use Rattle.model.specs.Answer.{Answer, refused}
 use Rattle.model.specs.Key.{before}
 use Rattle.model.specs.File.{File, full, apart, good_file}
+use Rattle.answers.specs.Outcome.{result_of}
+use Rattle.answers.specs.declared.Refusal.{Refusal}
 use Rattle.records.specs.Record.{file_of, sound_record, vacant, past}
 use Rattle.records.specs.declared.FileRecord.{FileRecord}
 use Rattle.level_list.specs.declared.FileList.{FileList}
-use Rattle.ask_find.specs.declared.Found.{Found}
-use Rattle.ask_find.specs.declared.Found.TheVariants.{At, Nowhere, Refused}
 use Rattle.bisect.specs.declared.Window.{Window}
 use Rattle.bisect.specs.Window.{mid_of, half_of}
 
@@ -22,11 +22,14 @@ use Rattle.bisect.specs.Window.{mid_of, half_of}
 unfoldable pub on_lent : {A : Type 0} → ℕ → List FileRecord → (List File → Answer A) → Answer A
 on_lent n rs call = cond (leb (length rs) full.room && all sound_record rs) (call (map file_of rs)) (cond (ltb n full.levels) (refused 14) (refused 1))
 
--- the answer of the model that `Found` stands for
-unfoldable pub found_of : Found → Answer (Option ℕ)
-found_of (At i) = gives (some i)
-found_of Nowhere = gives none
-found_of (Refused n) = refused n
+-- the index that code has of a file, if there is one
+unfoldable pub index_of : math.Option ℕ → Option ℕ
+index_of (math.some i) = Some i
+index_of math.none = None
+
+-- the result of finding a file
+unfoldable pub found_of : Answer (math.Option ℕ) → Result (Option ℕ) Refusal
+found_of a = result_of index_of a
 
 -- the lent records by value: as many as there is room for, blank records past them, and how many were lent
 unfoldable pub gathered : List FileRecord → FileList

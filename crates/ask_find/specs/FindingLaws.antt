@@ -1,20 +1,20 @@
 -- Laws of finding files: a call on a lent list answers as on the gathered list, and the answers of find_file. Assumes nothing.
-use Rattle.std.specs.Prelude.{ℕ, zero, suc, ◌+◌, ◌-◌, ◌*◌, ◌≤◌, ◌<◌, ◌≡◌, true, false, not, ◌&&◌, ltb, leb, take, drop}
+use Rattle.std.specs.Prelude.{ℕ, zero, suc, ◌-◌, ◌≤◌, ◌<◌, ◌≡◌, true, false, not, ◌&&◌, ltb, leb, take, drop}
+use Rattle.std.specs.Bool.{then_some}
 use Rattle.std.proofs.Math.Path.{refl, ap}
-use Rattle.std.proofs.Common.{sym, ◌∙◌, arith, length-take, take_all, take_at, drop_at}
-use Rattle.std.proofs.Math.Bool.{cond}
+use Rattle.std.proofs.Common.{sym, ◌∙◌, arith, take_all, take_at, drop_at}
+use Rattle.std.proofs.Math.Bool.{Bool, cond}
 use mathlib.Core.List.{List, [], ◌∷◌, ◌++◌, map}
 use Rattle.std.proofs.Math.Option.{none, some}
 use Rattle.std.proofs.Math.Decide.{dec_le}
 use Rattle.std.proofs.Math.ListN.{length}
-use Rattle.std.proofs.lemmas.List.{length-map}
 use Rattle.std.proofs.lemmas.Bool.{lt-leb}
 use Rattle.lemmas.specs.Lists.{all}
 use Rattle.lemmas.specs.ListLaws.{and_true}
 use Rattle.lemmas.specs.Slices.{put, put_front, drop_replicate}
 use Rattle.model.specs.Answer.{Answer, gives, refused, Refusal, ◌⇒◌, first_of}
 use Rattle.model.specs.Key.{good_key}
-use Rattle.model.specs.File.{File, full, in_order, apart, level_count, max_files}
+use Rattle.model.specs.File.{File, full, in_order, level_count, max_files}
 use Rattle.model.specs.Pick.{good_level}
 use Rattle.model.proofs.PickedLaws.{good_level_says}
 use Rattle.model.specs.Question.{find_index, passed}
@@ -27,7 +27,7 @@ use Rattle.level_list.specs.List.{files_of, sound_list, well_list, on_list}
 use Rattle.level_list.specs.ListLaws as list
 use Rattle.level_list.specs.declared.FileList.{FileList}
 use Rattle.ask_find.specs.SearchLaws.{halved_passed}
-use Rattle.ask_find.specs.Finding.{on_lent, gathered, halved, Deep}
+use Rattle.ask_find.specs.Finding.{on_lent, index_of, gathered, halved, Deep}
 
 -- ---- a lent list and the gathered list
 
@@ -90,6 +90,15 @@ unfolding files_of
 well_passed n l k at h w e = e (list.well_room n l w) ∙ halved_passed k (take l.count l.files) (well_deep n l h w)
 
 -- ---- find_file on a list
+
+-- an index that is given if it is below a bound
+pub index_given : (i p n : ℕ) → i ≡ p → then_some (ltb i n) i ≡ index_of (cond (ltb p n) (some p) none)
+unfolding index_of
+index_given i p n e = rw e (go (ltb p n))
+  where
+    go : (t : Bool) → then_some t p ≡ index_of (cond t (some p) none)
+    go true = refl
+    go false = refl
 
 module _ (n : ℕ) (l : FileList) (k : List ℕ) where
   -- the refusal of a bad key

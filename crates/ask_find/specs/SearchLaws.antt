@@ -1,10 +1,9 @@
 -- Laws of the search by halves: a step keeps the place where it ends and leaves fewer places. On a well-formed level above 0 that place is the number of files that
 -- end before the key. Assumes nothing.
-use Rattle.std.specs.Prelude.{ℕ, zero, suc, ◌+◌, ◌-◌, ◌≤◌, ◌<◌, ◌≡◌, Bool, cond, not, List, [], ◌∷◌, map, length, get_or}
+use Rattle.std.specs.Prelude.{ℕ, suc, ◌+◌, ◌-◌, ◌≤◌, ◌<◌, ◌≡◌, Bool, cond, not, List, [], ◌∷◌, map, length, get_or}
 use Rattle.std.proofs.Math.Path.{refl, sym}
 use Rattle.std.proofs.Common.{ap, ◌∙◌, arith}
 use Rattle.std.proofs.Math.Bool.{true, false}
-use Rattle.std.proofs.Math.Numerals.{unary_clauses}
 use Rattle.std.proofs.lemmas.List.{length-map}
 use Rattle.lemmas.specs.Bisect.{bisect, met, fuel, turn_up, turn_down, bisect_list}
 use Rattle.lemmas.specs.Loops.{before_first}
@@ -12,7 +11,7 @@ use Rattle.lemmas.specs.Maps.{first_map}
 use Rattle.lemmas.specs.Slices.{get_or_map}
 use Rattle.model.specs.Key.{before}
 use Rattle.model.specs.KeyLaws.{before_order}
-use Rattle.model.specs.File.{File, full, apart}
+use Rattle.model.specs.File.{File, full}
 use Rattle.model.proofs.Formed.{good_file_order}
 use Rattle.model.specs.Question.{passed}
 use Rattle.model.proofs.QuestionLaws.{ends_rise}

@@ -1,9 +1,7 @@
 // Finds files in a list of one level that the caller lends: a thin search by halves over the slice, above forms by value and on numbers.
 #![tactic(auto)]
 
-ghost use Rattle.std.specs.Prelude.{◌≡◌, cond, map, ◌<◌, ◌≤◌, ltb, length, get_or, take};
-ghost use Rattle.std.proofs.Math.Option.{some, none};
-ghost use Rattle.model.specs.Answer.{gives};
+ghost use Rattle.std.specs.Prelude.{◌≡◌, map, ◌<◌, ◌≤◌, length, get_or, take};
 ghost use Rattle.model.specs.File.{full, max_files};
 ghost use Rattle.model.specs.Question.{passed};
 ghost use Rattle.model.specs.Calls as calls;
@@ -18,14 +16,6 @@ use bisect::Window;
 use keys::Key;
 use level_list::FileList;
 use records::{FileRecord, Level, Version};
-
-// The answer of `find_file`: the index of the file, nowhere, or the number of the refusal.
-#[derive(Clone, Copy)]
-pub enum Found {
-    At(usize),
-    Nowhere,
-    Refused(u8),
-}
 
 // The record at a place of a lent list. Internal. Requires: the list has the place.
 pub fn nth(files: &[FileRecord], i: usize) -> FileRecord
@@ -101,42 +91,32 @@ fn scan(files: [FileRecord; Version::ROOM], n: usize, k: Key) -> usize
         .count()
 }
 
-// The index, or nowhere if it is past the end.
-fn placed(i: usize, n: usize) -> Found
-    ensures { found_of result ≡ gives (cond (ltb i n) (some i) none) }
-{
-    if i < n {
-        return Found::At(i);
-    }
-    Found::Nowhere
-}
-
-// The index of the first file of a list by value whose largest is not before the key. Requires: `at` is where the search by halves ended, if the list is within the
-// room.
-fn find_in_list(level: usize, l: FileList, k: Key, at: usize) -> Found
+// The index of the first file of a list by value whose largest is not before the key, if there is one. Requires: `at` is where the search by halves ended, if the list
+// is within the room.
+fn find_in_list(level: usize, l: FileList, k: Key, at: usize) -> Result<Option<usize>, Refusal>
     requires { l.count ≤ max_files → at ≡ halved (key_of k) (take l.count l.files) }
-    ensures { found_of result ≡ on_list level l (λ fs. calls.find_file_call full level fs (key_of k)) }
+    ensures { result ≡ found_of (on_list level l (λ fs. calls.find_file_call full level fs (key_of k))) }
 {
     if Level::COUNT <= level {
-        return Found::Refused(Refusal::LEVEL);
+        return Err(Refusal::Level);
     }
     if !level_list::is_well_formed(level, l) {
-        return Found::Refused(Refusal::FORM);
+        return Err(Refusal::Form);
     }
     if !keys::is_good(k) {
-        return Found::Refused(Refusal::KEY);
+        return Err(Refusal::Key);
     }
-    if level == 0 {
-        let files = l.files;
-        let i = scan(files, l.count, k);
-        return placed(i, l.count);
-    }
-    placed(at, l.count)
+    let i = if level == 0 {
+        scan(l.files, l.count, k)
+    } else {
+        at
+    };
+    Ok((i < l.count).then_some(i))
 }
 
-// The index of the first file of a lent list of one level whose largest is not before the key.
-pub fn find_file(level: usize, files: &[FileRecord], k: Key) -> Found
-    ensures { found_of result ≡ on_lent level files.now (λ fs. calls.find_file_call full level fs (key_of k)) }
+// The index of the first file of a lent list of one level whose largest is not before the key, if there is one.
+pub fn find_file(level: usize, files: &[FileRecord], k: Key) -> Result<Option<usize>, Refusal>
+    ensures { result ≡ found_of (on_lent level files.now (λ fs. calls.find_file_call full level fs (key_of k))) }
 {
     let at = search(files, k);
     let l = gather(files);

@@ -1,6 +1,8 @@
 -- Laws of the two calls on ranges: the refusals 14, 1, 2 in turn, that the files found always fit the output, and the list that one search gives. Assumes nothing.
-use Rattle.std.specs.Prelude.{ℕ, ◌+◌, ◌≤◌, ◌<◌, ◌≡◌, refl, Bool, true, false, ◌&&◌, ltb, length}
-use Rattle.std.proofs.Common.{sym, ◌∙◌, arith, le-ltb}
+use Rattle.std.specs.Prelude.{ℕ, ◌+◌, ◌≤◌, ◌<◌, ◌≡◌, refl, Bool, true, false, not, ◌&&◌, ltb, length, Ok, Err}
+use Rattle.std.proofs.Common.{sym, ◌∙◌, arith, lt-ltb, le-ltb}
+use borrow.Author.Tests.{ltb-true, ltb-false, not-true, not-false}
+use Rattle.lemmas.specs.Order.{clash}
 use Rattle.std.proofs.Math.Path.{ap}
 use mathlib.Core.List.{List, [], ◌∷◌, append-nil}
 use Rattle.lemmas.specs.Lists.{any, join}
@@ -12,6 +14,9 @@ use Rattle.model.proofs.Formed.{formed_says}
 use Rattle.model.specs.Key.{good_key, good_user}
 use Rattle.model.proofs.PickLaws.{overlapping_sub}
 use Rattle.model.specs.Range.{Range, between, overlaps, overlapping}
+use Rattle.answers.specs.Outcome.{number_of, passed}
+use Rattle.answers.specs.OutcomeLaws.{passed_nil, passed_here, passed_later, one_done, one_refused}
+use Rattle.answers.specs.declared.Refusal as code
 use Rattle.records.specs.Run.{run}
 use Rattle.records.specs.RecordLaws.{run_ended}
 use Rattle.levels.specs.Levels.{laid_out}
@@ -23,9 +28,10 @@ use Rattle.level_list.specs.List.{list_of}
 use Rattle.pick_found.specs.declared.FoundRun.{FoundRun}
 use Rattle.pick_found.specs.FoundRun.{start_at, end_at, inputs_of}
 use Rattle.pick_found.specs.FoundLaws.{held_count}
-use Rattle.pick_found.specs.CallsLaws.{asked_ill, asked_beyond, asked_key, asked_on, level_run_lem}
+use Rattle.pick_found.specs.CallsLaws.{asked, asked_ill, asked_beyond, asked_key, asked_on, level_run_lem}
 use Rattle.pick_search.specs.declared.Choice.{Choice}
 use Rattle.pick_search.specs.Choice.{SearchInvariant, laid_choice}
+use Rattle.ask_overlap.specs.Level.{level_tests}
 
 -- ---- 13 never applies
 -- no level has more files than the room
@@ -34,6 +40,53 @@ unfolding level
 fits_output t n r h =
     let room = ((formed_says full t).0 h).room in
     omega (arith, sub_length (overlapping_sub n (level t n) r), join_length t.files n)
+
+-- ---- the tests of the store and the level
+module _ (s : Store) (n : ℕ) where
+  -- the test of the level alone
+  abbrev at_level : List Refusal
+  at_level = (not (ltb n full.levels) ⇒ 1) ∷ []
+
+  -- a store that is not well-formed: 14
+  pub tests_ill : well_store s ≡ false → passed (level_tests s n) ≡ Err code.Refusal.Form
+  unfolding level_tests
+  tests_ill h = passed_here (not (well_store s)) 14 at_level (ap not h)
+
+  module _ (h : well_store s ≡ true) where
+    -- a level above 6: 1
+    pub tests_beyond : level_count ≤ n → passed (level_tests s n) ≡ Err code.Refusal.Level
+    unfolding level_tests full
+    tests_beyond k = passed_later (not (well_store s)) 14 at_level (ap not h) ∙ passed_here (not (ltb n level_count)) 1 [] (ap not (le-ltb n level_count k))
+
+    -- none of both: done
+    pub tests_done : n < level_count → passed (level_tests s n) ≡ Ok tt
+    unfolding level_tests full
+    tests_done k = passed_later (not (well_store s)) 14 at_level (ap not h) ∙ passed_later (not (ltb n level_count)) 1 [] (ap not (lt-ltb n level_count k)) ∙ passed_nil
+
+  -- done: the store is well-formed, and the level is one of the seven
+  pub tests_passed : (u : Unit) → passed (level_tests s n) ≡ Ok u → (well_store s ≡ true) × (n < level_count)
+  unfolding level_tests full
+  tests_passed u e = go (well_store s) refl
+    where
+      go : (t : Bool) → well_store s ≡ t → (well_store s ≡ true) × (n < level_count)
+      go true h =
+          let few = one_done (not (ltb n level_count)) 1 u (sym (passed_later (not (well_store s)) 14 at_level (ap not h)) ∙ e) in
+          (h, ltb-true n level_count (not-false (ltb n level_count) few))
+      go false h = let z : true ≡ false = cc (tests_ill h, e) in clash refl z
+
+  -- a call that makes these tests first is refused by them
+  pub tests_refuse : {A : Type 0} (keys : Bool) (rs : State → List Refusal) (a : State → A) (r : code.Refusal) → passed (level_tests s n) ≡ Err r
+      → on_store s (asked s n keys rs a) ≡ refused (number_of r)
+  unfolding level_tests full
+  tests_refuse keys rs a r e = go (well_store s) refl
+    where
+      go : (t : Bool) → well_store s ≡ t → on_store s (asked s n keys rs a) ≡ refused (number_of r)
+      go true h =
+          let one = one_refused (not (ltb n level_count)) 1 r (sym (passed_later (not (well_store s)) 14 at_level (ap not h)) ∙ e) in
+          asked_beyond s n keys rs a h (ltb-false n level_count (not-true (ltb n level_count) one.0)) ∙ ap (λ (x : code.Refusal). refused (number_of x)) (sym one.1)
+      go false h =
+          let form : code.Refusal.Form ≡ r = cc (tests_ill h, e) in
+          asked_ill s n keys rs a h ∙ ap (λ (x : code.Refusal). refused (number_of x)) form
 
 -- ---- the two calls
 module _ (s : Store) (n : ℕ) (a b : List ℕ) where
@@ -49,6 +102,11 @@ module _ (s : Store) (n : ℕ) (a b : List ℕ) where
   pub told_ill : well_store s ≡ false → on_store s (λ t. calls.overlap_in_level full t n a b) ≡ refused 14
   unfolding calls.overlap_in_level
   told_ill h = asked_ill s n users (λ t. []) (λ t. any (overlaps user_range) (level t n)) h
+
+  -- refused by the tests of the store and the level
+  pub told_refused : (r : code.Refusal) → passed (level_tests s n) ≡ Err r → on_store s (λ t. calls.overlap_in_level full t n a b) ≡ refused (number_of r)
+  unfolding calls.overlap_in_level
+  told_refused r e = tests_refuse s n users (λ t. []) (λ t. any (overlaps user_range) (level t n)) r e
 
   module _ (h : well_store s ≡ true) where
     -- a level above 6: 1
@@ -85,6 +143,11 @@ module _ (s : Store) (n : ℕ) (a b : List ℕ) where
   pub inputs_ill : well_store s ≡ false → on_store s (λ t. calls.overlapping_inputs full t n a b full.room) ≡ refused 14
   unfolding calls.overlapping_inputs
   inputs_ill h = asked_ill s n keys too_long found h
+
+  -- refused by the tests of the store and the level
+  pub inputs_refused : (r : code.Refusal) → passed (level_tests s n) ≡ Err r → on_store s (λ t. calls.overlapping_inputs full t n a b full.room) ≡ refused (number_of r)
+  unfolding calls.overlapping_inputs
+  inputs_refused r e = tests_refuse s n keys too_long found r e
 
   module _ (h : well_store s ≡ true) where
     -- a level above 6: 1

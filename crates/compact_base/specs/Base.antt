@@ -1,10 +1,11 @@
 -- The memory that a record of base-level questions stands for, and their answers by value. Assumes nothing.
-use Rattle.std.specs.Prelude.{ℕ, Bool, true, false, ◌&&◌, ◌||◌, cond, List, [], eqb}
+use Rattle.std.specs.Prelude.{ℕ, Bool, true, false, ◌&&◌, ◌||◌, cond, List, [], eqb, Result}
 use Rattle.std.proofs.Math.Option.{Option, none, some}
-use Rattle.model.specs.Answer.{Answer, gives, refused}
+use Rattle.model.specs.Answer.{Answer, refused}
 use Rattle.model.specs.File.{full}
 use Rattle.model.specs.Calls as calls
-use Rattle.answers.specs.Outcome.{outcome_of}
+use Rattle.answers.specs.Outcome.{result_of}
+use Rattle.answers.specs.declared.Refusal.{Refusal}
 use Rattle.keys.specs.Key.{user_of, user_record, sound_user}
 use Rattle.compact_base.specs.declared.Asked.{Asked}
 use Rattle.compact_base.specs.declared.Based.{Based}
@@ -30,11 +31,10 @@ well_asked m = sound_asked m && calls.good_memory full (asked_of m)
 unfoldable pub on_asked : {A : Type 0} → Asked → Answer A → Answer A
 on_asked m a = cond (sound_asked m) a (refused 14)
 
--- the answer by value. After a refusal, no and the memory unchanged
-unfoldable pub based_by : Asked → Answer calls.Base → Based
-based_by m (gives b) = record { outcome = outcome_of (gives b); base = b.answer; memory = asked_record b.memory }
-based_by m (refused n) = record { outcome = outcome_of {A = calls.Base} (refused n); base = false; memory = m }
+-- the record of an answer: whether the level is the key's base, and the memory after the question
+unfoldable pub base_record : calls.Base → Based
+base_record b = record { base = b.answer; memory = asked_record b.memory }
 
--- the memory unchanged, with the number of the refusal
-abbrev pub refused_base : Asked → ℕ → Based
-refused_base m n = based_by m (refused n)
+-- the result of a question
+unfoldable pub based_by : Answer calls.Base → Result Based Refusal
+based_by a = result_of base_record a

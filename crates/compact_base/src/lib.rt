@@ -8,9 +8,9 @@ ghost use Rattle.model.specs.Question as model;
 ghost use Rattle.model.specs.Calls as calls;
 ghost use Rattle.keys.specs.Key.{user_of};
 ghost use Rattle.store.specs.Store.{state_of, well_store, on_store};
-ghost use Rattle.compact_base.specs.Base.{asked_of, asked_record, well_asked, on_asked, based_by, refused_base};
+ghost use Rattle.compact_base.specs.Base.{asked_of, asked_record, well_asked, on_asked, based_by};
 
-use answers::{Outcome, Refusal};
+use answers::Refusal;
 use keys::UserKey;
 use pick_range::Span;
 use records::Level;
@@ -26,7 +26,6 @@ pub struct Asked {
 // The answer of a base-level question, and the memory after it.
 #[derive(Clone, Copy)]
 pub struct Based {
-    pub outcome: Outcome,
     pub base: bool,
     pub memory: Asked,
 }
@@ -62,10 +61,7 @@ fn is_well_formed_memory(m: Asked) -> bool
 fn goes_back(m: Asked, u: UserKey) -> bool
     ensures { result ≡ not (model.not_before (asked_of m) (user_of u)) }
 {
-    if m.any {
-        return keys::user_key_is_before(u, m.user);
-    }
-    false
+    m.any && keys::user_key_is_before(u, m.user)
 }
 
 // Whether no file at level + 2 or deeper holds the user key. Requires: the store is well-formed, and the level is one of the seven.
@@ -76,55 +72,41 @@ pub fn is_base_level(s: Store, level: usize, u: UserKey) -> bool
     if Level::COUNT <= level + 2 {
         return true;
     }
-    let counts = s.counts;
-    let from = levels::start_of(counts, level + 2);
-    let to = levels::counted(counts);
-    let files = s.files;
+    let from = levels::start_of(s.counts, level + 2);
+    let to = levels::counted(s.counts);
     let span = Span { start: u, stop: u };
-    !pick_range::has_overlap(files, from, to, span)
-}
-
-// The memory unchanged, with the number of the refusal.
-fn refuse(m: Asked, n: u8) -> Based
-    ensures { result ≡ refused_base m n }
-{
-    let outcome = Outcome::Refused(n);
-    Based {
-        outcome: outcome,
-        base: false,
-        memory: m,
-    }
+    !pick_range::has_overlap(s.files, from, to, span)
 }
 
 // Whether no file at level + 2 or deeper of the store holds the user key, and the memory after the question.
-pub fn is_base_level_for(s: Store, level: usize, memory: Asked, u: UserKey) -> Based
-    ensures { result ≡ based_by memory (on_store s (λ t. on_asked memory (calls.is_base_level full t level (asked_of memory) (user_of u)))) }
+pub fn is_base_level_for(
+    s: Store,
+    level: usize,
+    memory: Asked,
+    u: UserKey,
+) -> Result<Based, Refusal>
+    ensures { result ≡ based_by (on_store s (λ t. on_asked memory (calls.is_base_level full t level (asked_of memory) (user_of u)))) }
 {
     if !store::is_well_formed(s) {
-        return refuse(memory, Refusal::FORM);
+        return Err(Refusal::Form);
     }
     if !is_well_formed_memory(memory) {
-        return refuse(memory, Refusal::FORM);
+        return Err(Refusal::Form);
     }
     if Level::COUNT <= level {
-        return refuse(memory, Refusal::LEVEL);
+        return Err(Refusal::Level);
     }
     if !keys::is_good_user(u) {
-        return refuse(memory, Refusal::KEY);
+        return Err(Refusal::Key);
     }
     if goes_back(memory, u) {
-        return refuse(memory, Refusal::BACKWARDS);
+        return Err(Refusal::Backwards);
     }
-    let base = is_base_level(s, level, u);
-    let outcome = Outcome::Done;
-    let user = keys::kept_user(u);
-    let after = Asked {
-        any: true,
-        user: user,
-    };
-    Based {
-        outcome: outcome,
-        base: base,
-        memory: after,
-    }
+    Ok(Based {
+        base: is_base_level(s, level, u),
+        memory: Asked {
+            any: true,
+            user: keys::kept_user(u),
+        },
+    })
 }

@@ -1,6 +1,6 @@
 -- Laws of the cutter: the grandparents as runs of places, a count from the place down, the files that a key passes, and the answer of a step. Assumes nothing.
-use Prim.Native.Nat.{ℕ, suc, ◌+◌, ◌-◌, ◌*◌, ◌^◌, ◌≤◌, ◌<◌}
-use Rattle.std.specs.Prelude.{◌≡◌, refl, true, false, ◌&&◌, ◌||◌, List, [], ◌∷◌, map, leb, length, take}
+use Prim.Native.Nat.{ℕ, suc, ◌+◌, ◌-◌, ◌*◌, ◌≤◌, ◌<◌}
+use Rattle.std.specs.Prelude.{◌≡◌, refl, true, false, ◌&&◌, ◌||◌, List, [], ◌∷◌, map, leb, length, take, Ok}
 use Rattle.std.proofs.Common.{sym, ◌∙◌, drop-drop, take-take}
 use Rattle.std.proofs.Math.Path.{ap}
 use Rattle.std.proofs.Math.Bool.{Bool}
@@ -19,14 +19,14 @@ use Rattle.lemmas.specs.Slices.{take_drop, take_map, drop_map, sum_take}
 use Rattle.model.specs.Answer.{Answer, gives, refused, ◌⇒◌, first_of}
 use Rattle.model.specs.Key as model_key
 use Rattle.model.specs.Key.{before, good_key}
-use Rattle.model.specs.File.{File, full, total, good_file, max_files, max_size, max_bytes}
+use Rattle.model.specs.File.{File, full, total, good_file, max_files, max_bytes}
 use Rattle.model.specs.Pick.{good_picked}
 use Rattle.model.proofs.PickedLaws.{good_picked_says, cutter_keeps}
 use Rattle.model.specs.Question as model
 use Rattle.model.specs.Question.{passed, cut_step}
 use Rattle.model.specs.Calls as calls
 use Rattle.model.specs.Calls.{counts_up_to, good_cutter}
-use Rattle.answers.specs.Outcome.{outcome_of}
+use Rattle.answers.specs.Outcome.{result_of}
 use Rattle.keys.specs.Key.{key_of}
 use Rattle.keys.specs.declared.Key.{Key}
 use Rattle.records.specs.Record.{file_of}
@@ -39,7 +39,7 @@ use Rattle.pick_answer.specs.PickedLaws as picked
 use Rattle.compact_cutter.specs.declared.Cutter.{Cutter}
 use Rattle.compact_cutter.specs.declared.Cut.{Cut}
 use Rattle.compact_cutter.specs.declared.Passing.{Passing}
-use Rattle.compact_cutter.specs.Cutter.{cutter_of, cutter_record, good_memory, stopping, cut_by, passing_from, counted_with, cut_after}
+use Rattle.compact_cutter.specs.Cutter.{cutter_of, cutter_record, cut_record, good_memory, stopping, cut_by, left_by, passing_from, counted_with, cut_after}
 
 -- ---- runs
 
@@ -188,8 +188,8 @@ module _ (c : Picked) (h : well_picked c ≡ true) (place : ℕ) (k : model_key.
 -- ---- the answer of a step
 
 -- the cut after the grandparents passed is the model's
-pub cut_is : (m : Cutter) (most : ℕ) (gs : List File) (k : model_key.Key) → cut_after m (10 * most) (passing_from m.place gs k) ≡ cut_by m (gives (cut_step most gs (cutter_of m) k))
-unfolding cut_after cut_by counted_with passing_from cut_step cutter_of cutter_record outcome_of
+pub cut_is : (m : Cutter) (most : ℕ) (gs : List File) (k : model_key.Key) → cut_after m (10 * most) (passing_from m.place gs k) ≡ cut_record (cut_step most gs (cutter_of m) k)
+unfolding cut_after cut_record counted_with passing_from cut_step cutter_of cutter_record
 cut_is m most gs k = refl
 
 module _ (c : Picked) (m : Cutter) where
@@ -262,19 +262,29 @@ fresh_good c = refl
 
 -- a well-formed memory stays so after a key
 pub advance_keeps : (c : Picked) (m : Cutter) (k : Key) → good_memory c m ≡ true
-    → good_memory c (cut_by m (gives (cut_step c.maximum (picked_of c).grand (cutter_of m) (key_of k)))).memory ≡ true
-unfolding good_memory cut_by cutter_of cutter_record picked_of
+    → good_memory c (cut_record (cut_step c.maximum (picked_of c).grand (cutter_of m) (key_of k))).memory ≡ true
+unfolding good_memory cut_record cutter_of cutter_record picked_of
 advance_keeps c m k g = cutter_keeps (picked_of c) (cutter_of m) (key_of k) g
 
 -- a well-formed memory stays so after a call, accepted or refused
-pub step_keeps : (c : Picked) (m : Cutter) (k : Key) → good_memory c m ≡ true → good_memory c (cut_by m (stopping c m k)).memory ≡ true
-unfolding cut_by
+pub step_keeps : (c : Picked) (m : Cutter) (k : Key) → good_memory c m ≡ true → good_memory c (left_by m (stopping c m k)) ≡ true
+unfolding left_by cut_record
 step_keeps c m k g = by_picked (well_picked c) refl
   where
-    by_key : well_picked c ≡ true → (t : Bool) → good_key full.longest (key_of k) ≡ t → good_memory c (cut_by m (stopping c m k)).memory ≡ true
+    by_key : well_picked c ≡ true → (t : Bool) → good_key full.longest (key_of k) ≡ t → good_memory c (left_by m (stopping c m k)) ≡ true
     by_key h true l = rw (stop_done c m k h g l) (advance_keeps c m k g)
     by_key h false l = rw (stop_key c m k h g l) g
 
-    by_picked : (t : Bool) → well_picked c ≡ t → good_memory c (cut_by m (stopping c m k)).memory ≡ true
+    by_picked : (t : Bool) → well_picked c ≡ t → good_memory c (left_by m (stopping c m k)) ≡ true
     by_picked true h = by_key h (good_key full.longest (key_of k)) refl
     by_picked false h = rw (stop_ill c m k h) g
+
+-- the memory that an accepted call by value returns is the one that a step leaves
+pub step_leaves : (m : Cutter) (a : Answer model.Cut) (x : Cut) → cut_by a ≡ Ok x → x.memory ≡ left_by m a
+unfolding cut_by result_of cut_record left_by
+step_leaves m (gives y) x e = cc
+step_leaves m (refused n) x e = cc
+
+-- so it is well-formed
+pub step_well : (c : Picked) (m : Cutter) (k : Key) → good_memory c m ≡ true → (x : Cut) → cut_by (stopping c m k) ≡ Ok x → good_memory c x.memory ≡ true
+step_well c m k g x e = ap (good_memory c) (step_leaves m (stopping c m k) x e) ∙ step_keeps c m k g

@@ -3,14 +3,13 @@
 
 ghost use Rattle.std.specs.Prelude.{◌≡◌, true, ◌+◌, ◌≤◌};
 ghost use Rattle.model.specs.File.{max_word};
-ghost use Rattle.model.specs.Answer.{gives, refused};
 ghost use Rattle.model.specs.Question.{fresh_cutter, cut_step};
 ghost use Rattle.model.specs.Calls.{counts_up_to};
 ghost use Rattle.keys.specs.Key.{key_of};
 ghost use Rattle.pick_answer.specs.Picked.{picked_of, well_picked};
-ghost use Rattle.compact_cutter.specs.Cutter.{cutter_of, cutter_record, good_memory, stopping, cut_by, passing_from, counted_with, cut_after};
+ghost use Rattle.compact_cutter.specs.Cutter.{cutter_of, cutter_record, cut_record, good_memory, stopping, cut_by, passing_from, counted_with, cut_after};
 
-use answers::{Outcome, Refusal};
+use answers::Refusal;
 use keys::Key;
 use pick_answer::Picked;
 
@@ -25,10 +24,9 @@ pub struct Cutter {
     pub count: u64,
 }
 
-// Whether to cut before a key, and the memory after it. After a refusal, no cut and the memory as given.
+// Whether to cut before a key, and the memory after it.
 #[derive(Clone, Copy)]
 pub struct Cut {
-    pub outcome: Outcome,
     pub cut: bool,
     pub memory: Cutter,
 }
@@ -99,16 +97,13 @@ fn pass(c: Picked, place: usize, k: Key) -> Passing
     for at in place..c.grand {
         let f = c.files[from + at];
         if !keys::is_before(f.largest, k) {
-            return Passing {
-                place: at,
-                bytes: bytes,
-            };
+            return Passing { place: at, bytes };
         }
         bytes += f.size;
     }
     Passing {
         place: c.grand,
-        bytes: bytes,
+        bytes,
     }
 }
 
@@ -126,26 +121,14 @@ fn cut_after(m: Cutter, most: u64, p: Passing) -> Cut
     requires { m.count + p.bytes ≤ max_word }
     ensures { result ≡ cut_after m most p }
 {
-    let outcome = Outcome::Done;
     let bytes = counted_with(m, p.bytes);
-    if most < bytes {
-        return Cut {
-            outcome: outcome,
-            cut: true,
-            memory: Cutter {
-                seen: true,
-                place: p.place,
-                count: 0,
-            },
-        };
-    }
+    let cut = most < bytes;
     Cut {
-        outcome: outcome,
-        cut: false,
+        cut,
         memory: Cutter {
             seen: true,
             place: p.place,
-            count: bytes,
+            count: if cut { 0 } else { bytes },
         },
     }
 }
@@ -153,36 +136,24 @@ fn cut_after(m: Cutter, most: u64, p: Passing) -> Cut
 // One key more, with no tests. Requires: the picked answer and the memory are well-formed.
 pub fn advance(c: Picked, m: Cutter, k: Key) -> Cut
     requires { (well_picked c ≡ true) × (good_memory c m ≡ true) }
-    ensures { result ≡ cut_by m (gives (cut_step c.maximum (picked_of c).grand (cutter_of m) (key_of k))) }
+    ensures { result ≡ cut_record (cut_step c.maximum (picked_of c).grand (cutter_of m) (key_of k)) }
 {
     let p = pass(c, m.place, k);
     cut_after(m, Picked::GRAND_TIMES * c.maximum, p)
 }
 
-// The memory unchanged, with the number of the refusal.
-fn kept(m: Cutter, n: u8) -> Cut
-    ensures { result ≡ cut_by m (refused n) }
-{
-    let outcome = Outcome::Refused(n);
-    Cut {
-        outcome: outcome,
-        cut: false,
-        memory: m,
-    }
-}
-
 // Whether to cut before a key, and the memory after it.
-pub fn step(c: Picked, m: Cutter, k: Key) -> Cut
-    ensures { result ≡ cut_by m (stopping c m k) }
+pub fn step(c: Picked, m: Cutter, k: Key) -> Result<Cut, Refusal>
+    ensures { result ≡ cut_by (stopping c m k) }
 {
     if !pick_answer::is_well_formed(c) {
-        return kept(m, Refusal::FORM);
+        return Err(Refusal::Form);
     }
     if !is_good_memory(c, m) {
-        return kept(m, Refusal::FORM);
+        return Err(Refusal::Form);
     }
     if !keys::is_good(k) {
-        return kept(m, Refusal::KEY);
+        return Err(Refusal::Key);
     }
-    advance(c, m, k)
+    Ok(advance(c, m, k))
 }

@@ -1,13 +1,12 @@
 -- Laws of the deletions of a picked answer's inputs: how many there are, as records, in an edit, and in two columns. Assumes nothing.
 use Prim.Native.Nat.{ℕ, suc, ◌+◌, ◌-◌, ◌≤◌, ◌<◌, min}
-use Rattle.std.specs.Prelude.{◌≡◌, refl, true, false, ltb, drop, replicate}
+use Rattle.std.specs.Prelude.{◌≡◌, refl, true, false, ltb, drop, replicate, Result, Ok, Err, IsOkAnd}
 use Rattle.std.proofs.Common.{sym, ◌∙◌, add-one, lt-ltb, le-ltb, length-take-le, take_at}
 use Rattle.std.proofs.Math.Path.{ap}
 use mathlib.Core.List.{List, [], ◌∷◌, ◌++◌, map, map-map, map-append, append-nil, append_assoc}
 use native.Mathlib.Omega.{arith}
 use Rattle.std.proofs.Math.ListN.{length, take, length-map, length-append}
 use Rattle.std.proofs.Math.Seq.{slice}
-use Rattle.lemmas.specs.Order.{clash}
 use Rattle.lemmas.specs.ListLaws.{map_same}
 use Rattle.lemmas.specs.Slices.{put, put_front, run_join, length_view}
 use Rattle.model.specs.Answer.{Answer, gives, refused, ◌⇒◌, first_of, on_answer, lent}
@@ -17,9 +16,9 @@ use Rattle.model.specs.Edit as model_edit
 use Rattle.model.specs.Pick as model
 use Rattle.model.specs.Pick.{input_deletions}
 use Rattle.model.specs.Calls as calls
-use Rattle.answers.specs.declared.Counted.{Counted}
-use Rattle.answers.specs.declared.Counted.TheVariants as counted
-use Rattle.answers.specs.Outcome.{counted_of, filling}
+use Rattle.answers.specs.declared.Refusal.{Refusal}
+use Rattle.answers.specs.Outcome.{number_of, result_of, answer_of, filling}
+use Rattle.answers.specs.OutcomeLaws.{one_number}
 use Rattle.records.specs.Record.{file_of}
 use Rattle.records.specs.RecordLaws.{column_run}
 use Rattle.records.specs.Run.{run}
@@ -128,9 +127,9 @@ module _ (e : Edit) (q : length e.deletions ≡ max_deletions) (ds : List model_
 
 -- an edit with the inputs' deletions added: its own deletions, then exactly both input lists in order. Nothing else has changed
 pub inputs_added : (c : Picked) (e : Edit) → length c.files ≡ max_files → length e.deletions ≡ max_deletions → well_picked c ≡ true → c.first + c.second ≤ room_in e
-    → edit_of (deleted_by e (on_picked c (λ p. calls.deletions_of full p (room_in e)))).edit
-    ≡ record { pointers = (edit_of e).pointers; deletions = (edit_of e).deletions ++ input_deletions (picked_of c); additions = (edit_of e).additions; log = (edit_of e).log }
-unfolding deleted_by room_in full edit_of with_deletions
+    → IsOkAnd (deleted_by e (on_picked c (λ p. calls.deletions_of full p (room_in e)))) (λ x. edit_of x
+    ≡ record { pointers = (edit_of e).pointers; deletions = (edit_of e).deletions ++ input_deletions (picked_of c); additions = (edit_of e).additions; log = (edit_of e).log })
+unfolding deleted_by result_of room_in full edit_of with_deletions
 inputs_added c e q l h k =
     let ds = input_deletions (picked_of c) in
     let room : e.deletion_count + length ds ≤ max_deletions = omega (arith, deletions_length c (room_in e) h q, well_some c h q) in
@@ -178,15 +177,15 @@ module _ (c : Picked) (levels numbers : List ℕ) where
   room = min (length levels) (length numbers)
 
   -- a refusal leaves both columns as they were
-  pub names_refused : (n : ℕ) → naming c room ≡ refused n → Names c levels numbers (counted.Refused n) levels numbers
-  unfolding counted_of filling on_answer lent
-  names_refused n e = record { answer = rw e; levels_after = rw e; numbers_after = rw e }
+  pub names_refused : (r : Refusal) → naming c room ≡ refused (number_of r) → Names c levels numbers (Err r) levels numbers
+  unfolding answer_of filling on_answer lent
+  names_refused r e = record { answer = rw e; levels_after = rw e; numbers_after = rw e }
 
   -- else they are filled from the front
   pub names_done : length c.files ≡ max_files → well_picked c ≡ true → c.first + c.second ≤ room → (levels' numbers' : List ℕ)
       → levels' ≡ put levels 0 (replicate c.first c.level ++ replicate c.second (c.level + 1)) → numbers' ≡ put numbers 0 (file.numbers (run 0 (c.first + c.second) c.files))
-      → Names c levels numbers (counted.Filled (c.first + c.second)) levels' numbers'
-  unfolding counted_of filling on_answer lent naming
+      → Names c levels numbers (Ok (c.first + c.second)) levels' numbers'
+  unfolding answer_of filling on_answer lent naming
   names_done q h k levels' numbers' l n =
       let e = deletions_done c room h q k in
       let ds = input_deletions (picked_of c) in
@@ -197,14 +196,14 @@ module _ (c : Picked) (levels numbers : List ℕ) where
       }
 
 -- an answer has one form
-counted_one : (s t : Counted) → counted_of s ≡ counted_of t → s ≡ t
-unfolding counted_of
-counted_one (counted.Filled n) (counted.Filled m) e = let z : n ≡ m = cc in ap counted.Filled z
-counted_one (counted.Filled n) (counted.Refused m) e = let z : true ≡ false = cc in clash refl z
-counted_one (counted.Refused n) (counted.Filled m) e = let z : true ≡ false = cc in clash refl z
-counted_one (counted.Refused n) (counted.Refused m) e = let z : n ≡ m = cc in ap counted.Refused z
+answer_one : (s t : Result ℕ Refusal) → answer_of s ≡ answer_of t → s ≡ t
+unfolding answer_of
+answer_one (Ok n) (Ok m) e = cc
+answer_one (Ok n) (Err q) e = cc
+answer_one (Err r) (Ok m) e = cc
+answer_one (Err r) (Err q) e = ap Err (one_number r q cc)
 
 -- any two outcomes of the call are equal
-pub names_one : (c : Picked) (levels numbers : List ℕ) (s t : Counted) (l l' n n' : List ℕ) → Names c levels numbers s l n → Names c levels numbers t l' n' → (s ≡ t) × (l ≡ l') × (n ≡ n')
+pub names_one : (c : Picked) (levels numbers : List ℕ) (s t : Result ℕ Refusal) (l l' n n' : List ℕ) → Names c levels numbers s l n → Names c levels numbers t l' n' → (s ≡ t) × (l ≡ l') × (n ≡ n')
 names_one c levels numbers s t l l' n n' p q =
-    (counted_one s t (p.answer ∙ sym q.answer), p.levels_after ∙ sym q.levels_after, p.numbers_after ∙ sym q.numbers_after)
+    (answer_one s t (p.answer ∙ sym q.answer), p.levels_after ∙ sym q.levels_after, p.numbers_after ∙ sym q.numbers_after)

@@ -3,24 +3,16 @@
 
 ghost use Rattle.std.specs.Prelude.{◌≡◌, true, map, ◌+◌, ◌≤◌, length, replicate};
 ghost use Rattle.lemmas.specs.Slices.{put};
-ghost use Rattle.model.specs.Answer.{refused};
 ghost use Rattle.model.specs.File.{full, max_deletions};
 ghost use Rattle.model.specs.Pick.{input_deletions};
 ghost use Rattle.model.specs.Calls as calls;
 ghost use Rattle.pick_answer.specs.Picked.{picked_of, well_picked, on_picked};
 ghost use Rattle.compact_deletions.specs.Deletions.{deletion_at, deletion_record, room_in, deleted_by, Names};
 
-use answers::{Counted, Outcome, Refusal};
+use answers::Refusal;
 use edit::{Deletion, Edit};
 use keys::FileNumber;
 use pick_answer::Picked;
-
-// The answer of `add_input_deletions`. After a refusal the edit is the one given.
-#[derive(Clone, Copy)]
-pub struct Deleted {
-    pub outcome: Outcome,
-    pub edit: Edit,
-}
 
 // Writes deletions of these numbers at a level from a place on. Requires: there is room for them.
 fn lay_deletions(
@@ -35,7 +27,7 @@ fn lay_deletions(
     let mut deletions = out;
     for (i, number) in numbers.iter().enumerate() {
         deletions[at + i] = Deletion {
-            level: level,
+            level,
             number: FileNumber(*number),
         };
     }
@@ -49,48 +41,31 @@ fn lay_inputs(c: Picked, out: [Deletion; Edit::DELETIONS], at: usize) -> [Deleti
 {
     let first = c.first;
     let inputs = first + c.second;
-    let files = c.files;
-    let column = records::numbers_of(files, 0, inputs);
+    let column = records::numbers_of(c.files, 0, inputs);
     let some = lay_deletions(out, at, c.level, &column[0..first]);
     lay_deletions(some, at + first, c.level + 1, &column[first..inputs])
 }
 
-// The edit unchanged, with the number of the refusal.
-fn left(e: Edit, n: u8) -> Deleted
-    ensures { result ≡ deleted_by e (refused n) }
-{
-    let outcome = Outcome::Refused(n);
-    Deleted {
-        outcome: outcome,
-        edit: e,
-    }
-}
-
 // Adds the deletions of both input lists to an edit, in order, first inputs first, after the edit's own.
-pub fn add_input_deletions(c: Picked, e: Edit) -> Deleted
+pub fn add_input_deletions(c: Picked, e: Edit) -> Result<Edit, Refusal>
     ensures { result ≡ deleted_by e (on_picked c (λ p. calls.deletions_of full p (room_in e))) }
 {
     if !pick_answer::is_well_formed(c) {
-        return left(e, Refusal::FORM);
+        return Err(Refusal::Form);
     }
     let inputs = c.first + c.second;
     let n = e.deletion_count;
     if Edit::DELETIONS < n {
-        return left(e, Refusal::OUTPUT);
+        return Err(Refusal::Output);
     }
     if Edit::DELETIONS - n < inputs {
-        return left(e, Refusal::OUTPUT);
+        return Err(Refusal::Output);
     }
-    let deletions = e.deletions;
-    let laid = lay_inputs(c, deletions, n);
-    let mut out = e;
-    out.deletions = laid;
-    out.deletion_count = n + inputs;
-    let outcome = Outcome::Done;
-    Deleted {
-        outcome: outcome,
-        edit: out,
-    }
+    Ok(Edit {
+        deletions: lay_inputs(c, e.deletions, n),
+        deletion_count: n + inputs,
+        ..e
+    })
 }
 
 // Fills n places from a place on with one level. Requires: the list has these places.
@@ -110,24 +85,27 @@ fn lay_numbers(out: &mut [u64], numbers: &[u64])
 }
 
 // Writes the deletions of both input lists into two lent columns, levels and numbers, in order, first inputs first.
-pub fn input_deletions(c: Picked, levels: &mut [usize], numbers: &mut [u64]) -> Counted
+pub fn input_deletions(
+    c: Picked,
+    levels: &mut [usize],
+    numbers: &mut [u64],
+) -> Result<usize, Refusal>
     ensures { Names c levels.old numbers.old result levels.new numbers.new }
 {
     if !pick_answer::is_well_formed(c) {
-        return Counted::Refused(Refusal::FORM);
+        return Err(Refusal::Form);
     }
     let first = c.first;
     let inputs = first + c.second;
     if levels.len() < inputs {
-        return Counted::Refused(Refusal::OUTPUT);
+        return Err(Refusal::Output);
     }
     if numbers.len() < inputs {
-        return Counted::Refused(Refusal::OUTPUT);
+        return Err(Refusal::Output);
     }
-    let files = c.files;
-    let column = records::numbers_of(files, 0, inputs);
+    let column = records::numbers_of(c.files, 0, inputs);
     fill_levels(levels, 0, first, c.level);
     fill_levels(levels, first, c.second, c.level + 1);
     lay_numbers(numbers, &column[0..inputs]);
-    Counted::Filled(inputs)
+    Ok(inputs)
 }

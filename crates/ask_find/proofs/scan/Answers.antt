@@ -1,5 +1,5 @@
 -- `scan` meets its contract: it counts the files at the front that end before the key.
-use Rattle.std.proofs.Common.{◌≡◌, ℕ, ◌+◌, Bool, true, false, cond, suc, List, [], ◌∷◌, take, refl, ap, ◌∙◌, arith, rules, tests}
+use Rattle.std.proofs.Common.{◌≡◌, ◌+◌, Bool, true, false, cond, suc, List, [], ◌∷◌, take, refl, ◌∙◌, arith, rules, tests}
 use Rattle.std.specs.Prelude.{map}
 use Rattle.std.specs.List.{prefix_len}
 use Rattle.std.proofs.lemmas.Iterator.{YieldsList-from_slice}

@@ -1,9 +1,6 @@
 -- `search` meets its contract: each turn keeps the place where the search ends (`SearchLaws.antt`). Assumes nothing.
-use Rattle.std.proofs.Common.{ap, sym, ◌∙◌, ◌≡◌, ◌-◌, ◌<◌, arith}
 use Rattle.keys.specs.Key.{key_of}
-use Rattle.ask_find.specs.Finding.{probe_of}
-use Rattle.ask_find.specs.SearchLaws.{Standing, starts, ended, keeps, nearer}
-use Rattle.bisect.specs.declared.Window.{Window}
+use Rattle.ask_find.specs.SearchLaws.{starts, ended, keeps, nearer}
 use Rattle.ask_find.proofs.search.Goals as goal
 
 pub loop-s-init : goal.loop-s-init

@@ -5,7 +5,7 @@ use Rattle.std.proofs.lemmas.Iterator.Adapters.{YieldsList-from_rev_slice}
 use Rattle.std.proofs.lemmas.Iterator.Consumers.{YieldsList-turn, YieldsList-end}
 use Rattle.std.proofs.lemmas.List.{get_or-reverse, get_or_default, length-reverse, length_push}
 use Rattle.lemmas.specs.Slices.{take_drop, at_run}
-use Rattle.model.specs.File.{total, max_files}
+use Rattle.model.specs.File.{total}
 use Rattle.records.specs.Record.{past}
 use Rattle.records.specs.RecordLaws.{total_turn, total_ended}
 use Rattle.records.specs.Run.{run}

@@ -7,7 +7,6 @@ use Rattle.records.specs.Record.{file_of, past}
 use Rattle.records.specs.RecordLaws.{run_turn, run_ended}
 use Rattle.records.specs.Run.{run}
 use Rattle.records.specs.declared.FileRecord.{FileRecord}
-use Rattle.pick_answer.specs.Picked.{picked_of}
 use Rattle.pick_answer.specs.PickedLaws.{well_room}
 use Rattle.pick_answer.specs.declared.Picked.{Picked}
 use Rattle.pick_answer.proofs.Shape.{shape}
