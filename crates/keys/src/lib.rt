@@ -77,10 +77,7 @@ fn key_len(k: Key) -> usize
 fn without_trailer(n: usize) -> usize
     ensures { result ≡ n - 8 }
 {
-    if n < Key::TRAILER {
-        return 0;
-    }
-    n - Key::TRAILER
+    n.saturating_sub(Key::TRAILER)
 }
 
 // The number of bytes of a key's user key.

@@ -20,7 +20,7 @@ pub fn wide(x: u8) -> u64
 pub fn lesser(m: usize, n: usize) -> usize
     ensures { result ≡ min m n }
 {
-    if n < m { n } else { m }
+    m.min(n)
 }
 
 // Eight bytes from a place on as one big-endian number. Internal. Requires: the list has the eight bytes.

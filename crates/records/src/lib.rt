@@ -96,11 +96,7 @@ pub fn byte_limit(level: usize) -> u64
 pub fn allowed_seeks(size: u64) -> u64
     ensures { result ≡ seeks size }
 {
-    let n = size / FileRecord::SEEK_DIVISOR;
-    if n < FileRecord::LEAST_SEEKS {
-        return FileRecord::LEAST_SEEKS;
-    }
-    n
+    (size / FileRecord::SEEK_DIVISOR).max(FileRecord::LEAST_SEEKS)
 }
 
 // The record that is kept of a file. Bytes past its keys' ends are not read.
@@ -192,10 +188,7 @@ pub fn is_blank(r: FileRecord) -> bool
 pub fn within(to: usize) -> usize
     ensures { result ≡ min to max_files }
 {
-    if Version::ROOM < to {
-        return Version::ROOM;
-    }
-    to
+    to.min(Version::ROOM)
 }
 
 // The records in a run of places, up to the last of them. Internal.
