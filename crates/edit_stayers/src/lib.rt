@@ -108,12 +108,11 @@ pub fn has_twice(kept: &[u64], added: &[u64]) -> bool
     requires { distinct kept.now ≡ true }
     ensures { result ≡ not (distinct (kept.now ++ added.now)) }
 {
-    let m = kept.len();
     for (i, x) in added.iter().enumerate() {
-        if sorting::is_among(kept, m, *x) {
+        if kept.contains(x) {
             return true;
         }
-        if sorting::is_among(added, i, *x) {
+        if added[..i].contains(x) {
             return true;
         }
     }
