@@ -124,8 +124,5 @@ pub fn put_refused(out: &mut [u8], at: usize, r: Refusal) -> usize
 pub fn within(out: &[u8], at: usize) -> usize
     ensures { result ≡ min at (length out.now) }
 {
-    if at < out.len() {
-        return at;
-    }
-    out.len()
+    at.min(out.len())
 }

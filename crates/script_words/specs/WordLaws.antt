@@ -1,7 +1,9 @@
 -- Laws of words: what a loop over a run says at each turn, and what the records of keys hold. Assumes nothing.
 use Rattle.std.specs.Prelude.{ℕ, zero, suc, ◌+◌, ◌-◌, ◌*◌, ◌/◌, ◌%◌, ◌≤◌, ◌<◌, ◌≡◌, Bool, ◌&&◌, length, take, drop, set}
 use Rattle.std.proofs.Math.Path.{refl, ap}
-use Rattle.std.proofs.Common.{sym, ◌∙◌, arith, add-one, length-append, drop_of_length-le, take_all}
+use Rattle.std.specs.List.{list_all, find, range_with_len}
+use Rattle.std.specs.Option.{unwrap_or, option_map}
+use Rattle.std.proofs.Common.{sym, ◌∙◌, arith, ltb, eqb, Option, Some, None, add-one, length-append, drop_of_length-le, take_all}
 use Rattle.std.proofs.Math.Bool.{true, false, cond}
 use mathlib.Core.List.{List, [], ◌∷◌, ◌++◌, map, append-nil}
 use Rattle.std.proofs.Math.Dec.{leb}
@@ -184,6 +186,35 @@ module _ (line : List ℕ) (i to : ℕ) where
   pub hex_even : i < to → (to - i) % 2 ≡ 0 → is_hex (word_of line i to) ≡ all is_hex_digit (word_of line i to)
   unfolding is_hex
   hex_even h e = rw (word_some line i to h, word_length line i to, eq-eqb ((to - i) % 2) 0 e)
+
+-- the first place of a run that holds a byte, or its end, is as many places on as are before it
+places_found : (line : List ℕ) (b i n end : ℕ) → end ≡ i + n
+    → unwrap_or (find (λ k. eqb (get_or line k 0) b) (range_with_len i n)) end ≡ i + before_first (is_byte b) (map (λ k. get_or line k 0) (up_from i n))
+unfolding up_from before_first is_byte
+places_found line b i zero end h = h
+places_found line b i (suc n) end h = rw add-one (go (eqb (get_or line i 0) b) (places_found line b (suc i) n end (omega arith)))
+  where
+    found : Option ℕ
+    found = find (λ k. eqb (get_or line k 0) b) (range_with_len (suc i) n)
+
+    before : ℕ
+    before = before_first (λ x. eqb x b) (map (λ k. get_or line k 0) (up_from (suc i) n))
+
+    go : (t : Bool) → unwrap_or found end ≡ suc i + before → unwrap_or (cond t (Some i) found) end ≡ i + cond t 0 (suc before)
+    go true ih = omega arith
+    go false ih = omega arith
+
+-- the same for what the search answers
+pub place_found : (line : List ℕ) (b i n end : ℕ) (r : Option ℕ) → end ≡ i + n → option_map (λ (k : ℕ). k) r ≡ find (λ k. eqb (get_or line k 0) b) (range_with_len i n)
+    → unwrap_or r end ≡ i + before_first (is_byte b) (map (λ k. get_or line k 0) (up_from i n))
+place_found line b i n end None h e = ap (λ (o : Option ℕ). unwrap_or o end) e ∙ places_found line b i n end h
+place_found line b i n end (Some k) h e = ap (λ (o : Option ℕ). unwrap_or o end) e ∙ places_found line b i n end h
+
+-- the places of a run have hex digits alone exactly if its bytes are
+pub hex_places : (line : List ℕ) (i n : ℕ) → list_all (λ k. ltb (hex_value (get_or line k 0)) 16) (range_with_len i n) ≡ all is_hex_digit (map (λ k. get_or line k 0) (up_from i n))
+unfolding up_from all is_hex_digit
+hex_places line i zero = refl
+hex_places line i (suc n) = ap (λ (t : Bool). ltb (hex_value (get_or line i 0)) 16 && t) (rw add-one (hex_places line (suc i) n))
 
 -- ---- what a record holds of a key
 -- a byte past the end is 0

@@ -34,22 +34,16 @@ pub struct UserWord {
 pub fn byte_at(line: &[u8], i: usize) -> u8
     ensures { result ≡ get_or line.now i 0 }
 {
-    if i < line.len() {
-        return line[i];
-    }
-    0
+    line.get(i).copied().unwrap_or(0)
 }
 
 // The first place from one on that holds a byte, or the end.
 pub fn place_of(line: &[u8], from: usize, to: usize, b: u8) -> usize
     ensures { result ≡ from + before_first (is_byte b) (word_of line.now from to) }
 {
-    for i in from..to {
-        if byte_at(line, i) == b {
-            return i;
-        }
-    }
-    from.max(to)
+    (from..to)
+        .find(|i| byte_at(line, *i) == b)
+        .unwrap_or(from.max(to))
 }
 
 // The last place of a run that holds a byte, or its end.
@@ -183,12 +177,7 @@ pub fn is_hex(line: &[u8], from: usize, to: usize) -> bool
     if (to - from) % 2 != 0 {
         return false;
     }
-    for i in from..to {
-        if 15 < hex_digit(byte_at(line, i)) {
-            return false;
-        }
-    }
-    true
+    (from..to).all(|i| hex_digit(byte_at(line, i)) < 16)
 }
 
 // The byte of two hex digits.
@@ -213,21 +202,11 @@ pub fn hex_byte(line: &[u8], at: usize) -> u8
 pub fn lay_hex(line: &[u8], from: usize, to: usize, out: &mut [u8]) -> usize
     ensures { (result ≤ length out.new) × (take result out.new ≡ take (length out.new) (hex_bytes line.now from to)) }
 {
-    let n = (run_length(from, to) / 2).min(out.len());
+    let n = (to.saturating_sub(from) / 2).min(out.len());
     for (i, b) in out[..n].iter_mut().enumerate() {
         *b = hex_byte(line, from + 2 * i);
     }
     n
-}
-
-// How many bytes a run has.
-fn run_length(from: usize, to: usize) -> usize
-    ensures { result ≡ to - from }
-{
-    if to <= from {
-        return 0;
-    }
-    to - from
 }
 
 // A byte of a number of so many bytes, the lowest first; 0 past them.
@@ -248,7 +227,7 @@ fn low_byte(x: u64, width: usize, i: usize) -> u8
 fn text_byte(line: &[u8], from: usize, to: usize, x: u64, width: usize, i: usize) -> u8
     ensures { result ≡ get_or (word_of line.now from to ++ little width x) i 0 }
 {
-    let n = run_length(from, to);
+    let n = to.saturating_sub(from);
     if i < n {
         return byte_at(line, from + i);
     }
@@ -259,7 +238,7 @@ fn text_byte(line: &[u8], from: usize, to: usize, x: u64, width: usize, i: usize
 fn digits_byte(line: &[u8], from: usize, to: usize, i: usize) -> u8
     ensures { result ≡ get_or (hex_bytes line.now from to) i 0 }
 {
-    let n = run_length(from, to) / 2;
+    let n = to.saturating_sub(from) / 2;
     if n <= i {
         return 0;
     }
@@ -334,7 +313,7 @@ fn key_of_text(line: &[u8], from: usize, mark: usize, to: usize) -> KeyWord
     ensures { result ≡ sealed (word_of line.now from mark) (trailer_word line.now (mark + 1) to) }
 {
     let t = trailer_word(line, mark + 1, to);
-    let n = run_length(from, mark);
+    let n = mark.saturating_sub(from);
     if !t.fine {
         return no_key();
     }
@@ -371,7 +350,7 @@ pub fn internal_key(line: &[u8], from: usize, to: usize) -> KeyWord
         fine: true,
         key: Key {
             bytes: record_of_hex(line, from, to),
-            len: run_length(from, to) / 2,
+            len: to.saturating_sub(from) / 2,
         },
     }
 }

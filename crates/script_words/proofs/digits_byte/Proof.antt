@@ -6,13 +6,13 @@ use Rattle.script_words.specs.WordLaws.{hex_bytes_at, hex_bytes_past}
 use Rattle.script_words.proofs.digits_byte.Statement.{statement}
 use Rattle.script_words.proofs.digits_byte.Tie as tie
 
-run-length-requires : tie.Need-run_length-n-requires
-run-length-requires c κs = search rules
+saturating-sub-requires : tie.Need-saturating_sub-n-requires
+saturating-sub-requires c κs = search rules
 
 returns : tie.Need-returns-then-n-i
 returns c =
     let s = c.args in
-    sym (hex_bytes_past s.line.now s.from s.to s.i (omega (arith, c.run_length-n.ensures)))
+    sym (hex_bytes_past s.line.now s.from s.to s.i (omega (arith, c.saturating_sub-n.ensures)))
 
 mul-hex-byte : tie.Need-overflow_mul-i
 mul-hex-byte c = search rules
@@ -26,7 +26,7 @@ hex-byte-requires c κs = search rules
 returns_2 : tie.Need-returns
 returns_2 c =
     let s = c.args in
-    c.hex_byte.ensures ∙ sym (hex_bytes_at s.line.now s.from s.to s.i (omega (arith, c.run_length-n.ensures)))
+    c.hex_byte.ensures ∙ sym (hex_bytes_at s.line.now s.from s.to s.i (omega (arith, c.saturating_sub-n.ensures)))
 
 pub digits_byte_spec : {M : Type 1} → statement M
-digits_byte_spec = tie.close (tie.spec run-length-requires returns mul-hex-byte add-hex-byte hex-byte-requires returns_2)
+digits_byte_spec = tie.close (tie.spec saturating-sub-requires returns mul-hex-byte add-hex-byte hex-byte-requires returns_2)

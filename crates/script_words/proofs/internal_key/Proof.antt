@@ -48,18 +48,18 @@ returns_3 c =
 record-of-hex-requires : tie.Need-record_of_hex-requires
 record-of-hex-requires c κs = search rules
 
-run-length-requires : tie.Need-run_length-requires
-run-length-requires c κs = search rules
+saturating-sub-requires : tie.Need-saturating_sub-requires
+saturating-sub-requires c κs = search rules
 
 returns-4 : tie.Need-returns
 returns-4 c =
     let s = c.args in
     let m = c.last_place_of-mark in
     let k = hex_bytes s.line.now s.from s.to in
-    fine_key_is k c.record_of_hex.result (c.run_length.result / 2) c.record_of_hex.ensures
-    (omega (arith, hex_bytes_length s.line.now s.from s.to, c.run_length.ensures))
+    fine_key_is k c.record_of_hex.result (c.saturating_sub.result / 2) c.record_of_hex.ensures
+    (omega (arith, hex_bytes_length s.line.now s.from s.to, c.saturating_sub.ensures))
     ∙ sym (key_hex s.line.now s.from s.to (sym c.is_word.ensures ∙ c.if-is_word.false) m.result m.ensures c.if-mark-to.false
     (sym c.is_hex.ensures ∙ c.if-not-is_hex.false))
 
 pub internal_key_spec : {M : Type 1} → statement M
-internal_key_spec = tie.close (tie.spec is-word-requires returns last-place-of-requires key-of-text-requires returns_2 is-hex-requires no-key-requires returns_3 record-of-hex-requires run-length-requires returns-4)
+internal_key_spec = tie.close (tie.spec is-word-requires returns last-place-of-requires key-of-text-requires returns_2 is-hex-requires no-key-requires returns_3 record-of-hex-requires saturating-sub-requires returns-4)

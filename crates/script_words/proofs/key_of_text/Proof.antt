@@ -17,8 +17,8 @@ add-trailer-word c = search rules
 trailer-word-requires : tie.Need-trailer_word-t-requires
 trailer-word-requires c κs = search rules
 
-run-length-requires : tie.Need-run_length-n-requires
-run-length-requires c κs = search rules
+saturating-sub-requires : tie.Need-saturating_sub-n-requires
+saturating-sub-requires c κs = search rules
 
 no-key-requires : tie.Need-no_key-requires
 no-key-requires c κs = search rules
@@ -39,7 +39,7 @@ returns_2 c =
     let w = word_of s.line.now s.from s.mark in
     rw (← t.ensures)
     (c.no_key-then-n-gt18446744073709551607.ensures
-    ∙ sym (sealed_long w t.result (not-false t.result.fine c.if-not-t.false) (omega (arith, c.if-n-gt18446744073709551607.true, c.run_length-n.ensures, word_length s.line.now s.from s.mark))))
+    ∙ sym (sealed_long w t.result (not-false t.result.fine c.if-not-t.false) (omega (arith, c.if-n-gt18446744073709551607.true, c.saturating_sub-n.ensures, word_length s.line.now s.from s.mark))))
 
 record-of-text-requires : tie.Need-record_of_text-requires
 record-of-text-requires c κs = search rules
@@ -53,9 +53,9 @@ returns_3 c =
     let t = c.trailer_word-t in
     let w = word_of s.line.now s.from s.mark in
     rw (← t.ensures)
-    (fine_key_is (w ++ bytes 8 t.result.value) c.record_of_text.result (c.run_length-n.result + 8) c.record_of_text.ensures
-    (omega (arith, sealed_length s.line.now s.from s.mark t.result.value, c.run_length-n.ensures))
-    ∙ sym (sealed_fine w t.result (not-false t.result.fine c.if-not-t.false) (omega (arith, c.if-n-gt18446744073709551607.false, c.run_length-n.ensures, word_length s.line.now s.from s.mark))))
+    (fine_key_is (w ++ bytes 8 t.result.value) c.record_of_text.result (c.saturating_sub-n.result + 8) c.record_of_text.ensures
+    (omega (arith, sealed_length s.line.now s.from s.mark t.result.value, c.saturating_sub-n.ensures))
+    ∙ sym (sealed_fine w t.result (not-false t.result.fine c.if-not-t.false) (omega (arith, c.if-n-gt18446744073709551607.false, c.saturating_sub-n.ensures, word_length s.line.now s.from s.mark))))
 
 pub key_of_text_spec : {M : Type 1} → statement M
-key_of_text_spec = tie.close (tie.spec add-trailer-word trailer-word-requires run-length-requires no-key-requires returns no-key-requires-2 returns_2 record-of-text-requires add-t7 returns_3)
+key_of_text_spec = tie.close (tie.spec add-trailer-word trailer-word-requires saturating-sub-requires no-key-requires returns no-key-requires-2 returns_2 record-of-text-requires add-t7 returns_3)

@@ -1,19 +1,15 @@
--- `place_of` meets its contract: each turn looks at one place more. Assumes nothing.
-use Rattle.std.proofs.Common.{◌∙◌, sym, arith}
-use Rattle.script_words.specs.WordLaws.{place_here, place_later, place_end}
+-- `place_of` meets its contract: the first place that holds the byte is found. Assumes nothing.
+use Rattle.std.proofs.Common.{◌-◌, ◌∙◌, refl, eqb, get_or, arith, rules, tests}
+use Rattle.std.proofs.lemmas.Iterator.{YieldsList-from_range}
+use Rattle.std.proofs.lemmas.Iterator.Search.{find_from_yields_List}
+use Rattle.script_words.specs.Words.{word_of}
+use Rattle.script_words.specs.WordLaws.{place_found}
 use Rattle.script_words.proofs.place_of.Goals as goal
 
-pub returns-then-byte_at-b : goal.returns-then-byte_at-b
-returns-then-byte_at-b c =
-    let a = c.args in
-    omega (arith, place_here a.line.now c.loop-i.i a.to a.b (omega arith) (sym c.byte_at.ensures ∙ c.if-byte_at-b.true), c.loop-i.invariant.first)
-
-pub loop-i-preserved : goal.loop-i-preserved
-loop-i-preserved c =
-    let a = c.args in
-    record { within = omega arith; first = omega (arith, place_later a.line.now c.loop-i.i a.to a.b (omega arith) (λ e. c.if-byte_at-b.false (c.byte_at.ensures ∙ e)), c.loop-i.invariant.first) }
-
 pub returns : goal.returns
+unfolding word_of
 returns c =
     let a = c.args in
-    omega (arith, place_end a.line.now c.loop-i.i a.to a.b (omega arith), c.loop-i.invariant.first)
+    let n = a.to - a.from in
+    let found = find_from_yields_List (λ k. eqb (get_or a.line.now k 0) a.b) _ _ c.find.result c.find.ensures.ran (YieldsList-from_range a.from a.to n refl refl) (λ x b q k. search (rules, tests)) in
+    c.unwrap_or.ensures ∙ place_found a.line.now a.b a.from n c.max.result c.find.result (omega arith) found
