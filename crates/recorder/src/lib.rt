@@ -114,8 +114,8 @@ fn put_pointings(out: &mut [u8], at: usize, e: Edit) -> usize
     requires { at + length (pointers_bytes e) ≤ length out.old }
     ensures { (result ≡ at + length (pointers_bytes e)) × (out.new ≡ put out.old at (pointers_bytes e)) }
 {
-    let n = octets::lesser(e.pointing_count, Edit::POINTINGS);
-    let kept = octets::lesser(e.pointing_count, Edit::POINTINGS + 1);
+    let n = e.pointing_count.min(Edit::POINTINGS);
+    let kept = e.pointing_count.min(Edit::POINTINGS + 1);
     snapshot_parts::put_number(out, at, Snapshot::COUNT, kept as u64);
     let mut next = at + Snapshot::COUNT;
     for p in &e.pointings[..n] {
@@ -140,8 +140,8 @@ fn put_deletions(out: &mut [u8], at: usize, e: Edit) -> usize
     requires { at + length (deletions_bytes e) ≤ length out.old }
     ensures { (result ≡ at + length (deletions_bytes e)) × (out.new ≡ put out.old at (deletions_bytes e)) }
 {
-    let n = octets::lesser(e.deletion_count, Edit::DELETIONS);
-    let kept = octets::lesser(e.deletion_count, Edit::DELETIONS + 1);
+    let n = e.deletion_count.min(Edit::DELETIONS);
+    let kept = e.deletion_count.min(Edit::DELETIONS + 1);
     snapshot_parts::put_number(out, at, Snapshot::COUNT, kept as u64);
     let mut next = at + Snapshot::COUNT;
     for d in &e.deletions[..n] {
@@ -165,8 +165,8 @@ fn put_additions(out: &mut [u8], at: usize, e: Edit) -> usize
     requires { at + length (additions_bytes e) ≤ length out.old }
     ensures { (result ≡ at + length (additions_bytes e)) × (out.new ≡ put out.old at (additions_bytes e)) }
 {
-    let n = octets::lesser(e.addition_count, Edit::ADDITIONS);
-    let kept = octets::lesser(e.addition_count, Edit::ADDITIONS + 1);
+    let n = e.addition_count.min(Edit::ADDITIONS);
+    let kept = e.addition_count.min(Edit::ADDITIONS + 1);
     snapshot_parts::put_number(out, at, Snapshot::COUNT, kept as u64);
     let mut next = at + Snapshot::COUNT;
     for a in &e.additions[..n] {

@@ -159,25 +159,13 @@ fn edit_at(src: &[u8], at: usize) -> Edit
     ensures { result ≡ edit_record (edit_in (drop at src.now)) }
 {
     let n = snapshot_parse::get_number(src, at, Snapshot::COUNT) as usize;
-    let pointings = pointings_at(
-        src,
-        at + Snapshot::COUNT,
-        octets::lesser(n, Edit::POINTINGS),
-    );
+    let pointings = pointings_at(src, at + Snapshot::COUNT, n.min(Edit::POINTINGS));
     let a = replay_scan::pass_section(src, at, Snapshot::NUMBER, 1);
     let m = snapshot_parse::get_number(src, a.at, Snapshot::COUNT) as usize;
-    let deletions = deletions_at(
-        src,
-        a.at + Snapshot::COUNT,
-        octets::lesser(m, Edit::DELETIONS),
-    );
+    let deletions = deletions_at(src, a.at + Snapshot::COUNT, m.min(Edit::DELETIONS));
     let b = replay_scan::pass_section(src, a.at, Snapshot::KEYS, 0);
     let k = snapshot_parse::get_number(src, b.at, Snapshot::COUNT) as usize;
-    let additions = additions_at(
-        src,
-        b.at + Snapshot::COUNT,
-        octets::lesser(k, Edit::ADDITIONS),
-    );
+    let additions = additions_at(src, b.at + Snapshot::COUNT, k.min(Edit::ADDITIONS));
     let c = replay_scan::pass_section(src, b.at, Snapshot::NUMBER + Snapshot::KEYS, 2);
     let log = log_at(src, c.at);
     Edit {

@@ -25,10 +25,10 @@ put_addition-next-requires c =
     let l = c.loop-a in
     let long : length e.additions ≡ max_additions = (has_room e _ c.well_formed.1.1.0).additions in
     let room : c.args.at + length (section_bytes addition_form addition_of max_additions blank_addition e.addition_count e.additions) ≤ length c.args.out.now = rw (additions_are e) c.requires in
-    let counted = c.put_number.ensures ∙ ap (λ (n : ℕ). put c.args.out.now c.args.at (bytes count_long n)) c.lesser-kept.ensures in
-    let few = length-take c.lesser-n.result e.additions in
-    let more : l.a-index < min e.addition_count max_additions = omega (arith, c.lesser-n.ensures) in
-    let here = get_or-take c.lesser-n.result e.additions l.a-index past_addition (omega arith) in
+    let counted = c.put_number.ensures ∙ ap (λ (n : ℕ). put c.args.out.now c.args.at (bytes count_long n)) c.min-kept.ensures in
+    let few = length-take c.min-n.result e.additions in
+    let more : l.a-index < min e.addition_count max_additions = omega (arith, c.min-n.ensures) in
+    let here = get_or-take c.min-n.result e.additions l.a-index past_addition (omega arith) in
     rw here (turn_room addition_form addition_of max_additions blank_addition e.addition_count e.additions long c.args.out.now c.put_number.new.out c.args.at room counted l.out l.next l.a-index l.invariant past_addition more)
 
 pub loop-a-preserved : goal.loop-a-preserved
@@ -37,10 +37,10 @@ loop-a-preserved c =
     let l = c.loop-a in
     let long : length e.additions ≡ max_additions = (has_room e _ c.well_formed.1.1.0).additions in
     let room : c.args.at + length (section_bytes addition_form addition_of max_additions blank_addition e.addition_count e.additions) ≤ length c.args.out.now = rw (additions_are e) c.requires in
-    let counted = c.put_number.ensures ∙ ap (λ (n : ℕ). put c.args.out.now c.args.at (bytes count_long n)) c.lesser-kept.ensures in
-    let few = length-take c.lesser-n.result e.additions in
-    let more : l.a-index < min e.addition_count max_additions = omega (arith, c.lesser-n.ensures) in
-    let here = get_or-take c.lesser-n.result e.additions l.a-index past_addition (omega arith) in
+    let counted = c.put_number.ensures ∙ ap (λ (n : ℕ). put c.args.out.now c.args.at (bytes count_long n)) c.min-kept.ensures in
+    let few = length-take c.min-n.result e.additions in
+    let more : l.a-index < min e.addition_count max_additions = omega (arith, c.min-n.ensures) in
+    let here = get_or-take c.min-n.result e.additions l.a-index past_addition (omega arith) in
     let w = rw here at c.put_addition-next.ensures in
     turn_lays addition_form addition_of max_additions blank_addition e.addition_count e.additions long c.args.out.now c.put_number.new.out c.args.at room counted l.out l.next l.a-index l.invariant past_addition more c.put_addition-next.new.out c.put_addition-next.result w.0 w.1
 
@@ -50,10 +50,10 @@ put_addition-requires c =
     let l = c.loop-a in
     let long : length e.additions ≡ max_additions = (has_room e _ c.well_formed.1.1.0).additions in
     let room : c.args.at + length (section_bytes addition_form addition_of max_additions blank_addition e.addition_count e.additions) ≤ length c.args.out.now = rw (additions_are e) c.requires in
-    let counted = c.put_number.ensures ∙ ap (λ (n : ℕ). put c.args.out.now c.args.at (bytes count_long n)) c.lesser-kept.ensures in
-    let few = length-take c.lesser-n.result e.additions in
+    let counted = c.put_number.ensures ∙ ap (λ (n : ℕ). put c.args.out.now c.args.at (bytes count_long n)) c.min-kept.ensures in
+    let few = length-take c.min-n.result e.additions in
     let past : (min e.addition_count max_additions ≤ l.a-index) × (l.a-index < min e.addition_count (suc max_additions)) =
-    (omega (arith, c.lesser-n.ensures), omega (arith, l.invariant.0, c.lesser-n.ensures, c.lesser-kept.ensures)) in
+    (omega (arith, c.min-n.ensures), omega (arith, l.invariant.0, c.min-n.ensures, c.min-kept.ensures)) in
     rw (blank_addition_lem c.blank_key-blank.result c.blank_key-blank.ensures) (last_room addition_form addition_of max_additions blank_addition e.addition_count e.additions long c.args.out.now c.put_number.new.out c.args.at room counted l.out l.next l.a-index l.invariant past.0 past.1)
 
 pub returns-then-n-kept : goal.returns-then-n-kept
@@ -62,10 +62,10 @@ returns-then-n-kept c =
     let l = c.loop-a in
     let long : length e.additions ≡ max_additions = (has_room e _ c.well_formed.1.1.0).additions in
     let room : c.args.at + length (section_bytes addition_form addition_of max_additions blank_addition e.addition_count e.additions) ≤ length c.args.out.now = rw (additions_are e) c.requires in
-    let counted = c.put_number.ensures ∙ ap (λ (n : ℕ). put c.args.out.now c.args.at (bytes count_long n)) c.lesser-kept.ensures in
-    let few = length-take c.lesser-n.result e.additions in
+    let counted = c.put_number.ensures ∙ ap (λ (n : ℕ). put c.args.out.now c.args.at (bytes count_long n)) c.min-kept.ensures in
+    let few = length-take c.min-n.result e.additions in
     let past : (min e.addition_count max_additions ≤ l.a-index) × (l.a-index < min e.addition_count (suc max_additions)) =
-    (omega (arith, c.lesser-n.ensures), omega (arith, l.invariant.0, c.lesser-n.ensures, c.lesser-kept.ensures)) in
+    (omega (arith, c.min-n.ensures), omega (arith, l.invariant.0, c.min-n.ensures, c.min-kept.ensures)) in
     let b = c.blank_key-blank in
     let laid = rw (blank_addition_lem b.result b.ensures) at c.put_addition.ensures in
     rw (← additions_are e) (last_lays addition_form addition_of max_additions blank_addition e.addition_count e.additions long c.args.out.now c.put_number.new.out c.args.at room counted l.out l.next l.a-index l.invariant past.0 past.1 c.put_addition.new.out c.put_addition.result laid.0 laid.1)
@@ -76,6 +76,6 @@ returns c =
     let l = c.loop-a in
     let long : length e.additions ≡ max_additions = (has_room e _ c.well_formed.1.1.0).additions in
     let room : c.args.at + length (section_bytes addition_form addition_of max_additions blank_addition e.addition_count e.additions) ≤ length c.args.out.now = rw (additions_are e) c.requires in
-    let counted = c.put_number.ensures ∙ ap (λ (n : ℕ). put c.args.out.now c.args.at (bytes count_long n)) c.lesser-kept.ensures in
-    let few = length-take c.lesser-n.result e.additions in
-    rw (← additions_are e) (over_lays addition_form addition_of max_additions blank_addition e.addition_count e.additions long c.args.out.now c.put_number.new.out c.args.at room counted l.out l.next l.a-index l.invariant (omega (arith, l.invariant.0, c.lesser-n.ensures, c.lesser-kept.ensures)))
+    let counted = c.put_number.ensures ∙ ap (λ (n : ℕ). put c.args.out.now c.args.at (bytes count_long n)) c.min-kept.ensures in
+    let few = length-take c.min-n.result e.additions in
+    rw (← additions_are e) (over_lays addition_form addition_of max_additions blank_addition e.addition_count e.additions long c.args.out.now c.put_number.new.out c.args.at room counted l.out l.next l.a-index l.invariant (omega (arith, l.invariant.0, c.min-n.ensures, c.min-kept.ensures)))

@@ -25,10 +25,10 @@ put_deletion-next-requires c =
     let l = c.loop-d in
     let long : length e.deletions ≡ max_deletions = (has_room e _ c.well_formed.1.1.0).deletions in
     let room : c.args.at + length (section_bytes deletion_form deletion_of max_deletions blank_deletion e.deletion_count e.deletions) ≤ length c.args.out.now = rw (deletions_are e) c.requires in
-    let counted = c.put_number.ensures ∙ ap (λ (n : ℕ). put c.args.out.now c.args.at (bytes count_long n)) c.lesser-kept.ensures in
-    let few = length-take c.lesser-n.result e.deletions in
-    let more : l.d-index < min e.deletion_count max_deletions = omega (arith, c.lesser-n.ensures) in
-    let here = get_or-take c.lesser-n.result e.deletions l.d-index past_deletion (omega arith) in
+    let counted = c.put_number.ensures ∙ ap (λ (n : ℕ). put c.args.out.now c.args.at (bytes count_long n)) c.min-kept.ensures in
+    let few = length-take c.min-n.result e.deletions in
+    let more : l.d-index < min e.deletion_count max_deletions = omega (arith, c.min-n.ensures) in
+    let here = get_or-take c.min-n.result e.deletions l.d-index past_deletion (omega arith) in
     rw here (turn_room deletion_form deletion_of max_deletions blank_deletion e.deletion_count e.deletions long c.args.out.now c.put_number.new.out c.args.at room counted l.out l.next l.d-index l.invariant past_deletion more)
 
 pub loop-d-preserved : goal.loop-d-preserved
@@ -37,10 +37,10 @@ loop-d-preserved c =
     let l = c.loop-d in
     let long : length e.deletions ≡ max_deletions = (has_room e _ c.well_formed.1.1.0).deletions in
     let room : c.args.at + length (section_bytes deletion_form deletion_of max_deletions blank_deletion e.deletion_count e.deletions) ≤ length c.args.out.now = rw (deletions_are e) c.requires in
-    let counted = c.put_number.ensures ∙ ap (λ (n : ℕ). put c.args.out.now c.args.at (bytes count_long n)) c.lesser-kept.ensures in
-    let few = length-take c.lesser-n.result e.deletions in
-    let more : l.d-index < min e.deletion_count max_deletions = omega (arith, c.lesser-n.ensures) in
-    let here = get_or-take c.lesser-n.result e.deletions l.d-index past_deletion (omega arith) in
+    let counted = c.put_number.ensures ∙ ap (λ (n : ℕ). put c.args.out.now c.args.at (bytes count_long n)) c.min-kept.ensures in
+    let few = length-take c.min-n.result e.deletions in
+    let more : l.d-index < min e.deletion_count max_deletions = omega (arith, c.min-n.ensures) in
+    let here = get_or-take c.min-n.result e.deletions l.d-index past_deletion (omega arith) in
     let w = rw here at c.put_deletion-next.ensures in
     turn_lays deletion_form deletion_of max_deletions blank_deletion e.deletion_count e.deletions long c.args.out.now c.put_number.new.out c.args.at room counted l.out l.next l.d-index l.invariant past_deletion more c.put_deletion-next.new.out c.put_deletion-next.result w.0 w.1
 
@@ -51,10 +51,10 @@ put_deletion-requires c =
     let l = c.loop-d in
     let long : length e.deletions ≡ max_deletions = (has_room e _ c.well_formed.1.1.0).deletions in
     let room : c.args.at + length (section_bytes deletion_form deletion_of max_deletions blank_deletion e.deletion_count e.deletions) ≤ length c.args.out.now = rw (deletions_are e) c.requires in
-    let counted = c.put_number.ensures ∙ ap (λ (n : ℕ). put c.args.out.now c.args.at (bytes count_long n)) c.lesser-kept.ensures in
-    let few = length-take c.lesser-n.result e.deletions in
+    let counted = c.put_number.ensures ∙ ap (λ (n : ℕ). put c.args.out.now c.args.at (bytes count_long n)) c.min-kept.ensures in
+    let few = length-take c.min-n.result e.deletions in
     let past : (min e.deletion_count max_deletions ≤ l.d-index) × (l.d-index < min e.deletion_count (suc max_deletions)) =
-    (omega (arith, c.lesser-n.ensures), omega (arith, l.invariant.0, c.lesser-n.ensures, c.lesser-kept.ensures)) in
+    (omega (arith, c.min-n.ensures), omega (arith, l.invariant.0, c.min-n.ensures, c.min-kept.ensures)) in
     last_room deletion_form deletion_of max_deletions blank_deletion e.deletion_count e.deletions long c.args.out.now c.put_number.new.out c.args.at room counted l.out l.next l.d-index l.invariant past.0 past.1
 
 pub returns-then-n-kept : goal.returns-then-n-kept
@@ -64,10 +64,10 @@ returns-then-n-kept c =
     let l = c.loop-d in
     let long : length e.deletions ≡ max_deletions = (has_room e _ c.well_formed.1.1.0).deletions in
     let room : c.args.at + length (section_bytes deletion_form deletion_of max_deletions blank_deletion e.deletion_count e.deletions) ≤ length c.args.out.now = rw (deletions_are e) c.requires in
-    let counted = c.put_number.ensures ∙ ap (λ (n : ℕ). put c.args.out.now c.args.at (bytes count_long n)) c.lesser-kept.ensures in
-    let few = length-take c.lesser-n.result e.deletions in
+    let counted = c.put_number.ensures ∙ ap (λ (n : ℕ). put c.args.out.now c.args.at (bytes count_long n)) c.min-kept.ensures in
+    let few = length-take c.min-n.result e.deletions in
     let past : (min e.deletion_count max_deletions ≤ l.d-index) × (l.d-index < min e.deletion_count (suc max_deletions)) =
-    (omega (arith, c.lesser-n.ensures), omega (arith, l.invariant.0, c.lesser-n.ensures, c.lesser-kept.ensures)) in
+    (omega (arith, c.min-n.ensures), omega (arith, l.invariant.0, c.min-n.ensures, c.min-kept.ensures)) in
     let laid = c.put_deletion.ensures in
     rw (← deletions_are e) (last_lays deletion_form deletion_of max_deletions blank_deletion e.deletion_count e.deletions long c.args.out.now c.put_number.new.out c.args.at room counted l.out l.next l.d-index l.invariant past.0 past.1 c.put_deletion.new.out c.put_deletion.result laid.0 laid.1)
 
@@ -77,6 +77,6 @@ returns c =
     let l = c.loop-d in
     let long : length e.deletions ≡ max_deletions = (has_room e _ c.well_formed.1.1.0).deletions in
     let room : c.args.at + length (section_bytes deletion_form deletion_of max_deletions blank_deletion e.deletion_count e.deletions) ≤ length c.args.out.now = rw (deletions_are e) c.requires in
-    let counted = c.put_number.ensures ∙ ap (λ (n : ℕ). put c.args.out.now c.args.at (bytes count_long n)) c.lesser-kept.ensures in
-    let few = length-take c.lesser-n.result e.deletions in
-    rw (← deletions_are e) (over_lays deletion_form deletion_of max_deletions blank_deletion e.deletion_count e.deletions long c.args.out.now c.put_number.new.out c.args.at room counted l.out l.next l.d-index l.invariant (omega (arith, l.invariant.0, c.lesser-n.ensures, c.lesser-kept.ensures)))
+    let counted = c.put_number.ensures ∙ ap (λ (n : ℕ). put c.args.out.now c.args.at (bytes count_long n)) c.min-kept.ensures in
+    let few = length-take c.min-n.result e.deletions in
+    rw (← deletions_are e) (over_lays deletion_form deletion_of max_deletions blank_deletion e.deletion_count e.deletions long c.args.out.now c.put_number.new.out c.args.at room counted l.out l.next l.d-index l.invariant (omega (arith, l.invariant.0, c.min-n.ensures, c.min-kept.ensures)))

@@ -25,10 +25,10 @@ put_pointing-next-requires c =
     let l = c.loop-p in
     let long : length e.pointings ≡ max_pointers = (has_room e _ c.well_formed.1.1.0).pointings in
     let room : c.args.at + length (section_bytes pointer_form pointing_of max_pointers blank_pointing e.pointing_count e.pointings) ≤ length c.args.out.now = rw (pointers_are e) c.requires in
-    let counted = c.put_number.ensures ∙ ap (λ (n : ℕ). put c.args.out.now c.args.at (bytes count_long n)) c.lesser-kept.ensures in
-    let few = length-take c.lesser-n.result e.pointings in
-    let more : l.p-index < min e.pointing_count max_pointers = omega (arith, c.lesser-n.ensures) in
-    let here = get_or-take c.lesser-n.result e.pointings l.p-index past_pointing (omega arith) in
+    let counted = c.put_number.ensures ∙ ap (λ (n : ℕ). put c.args.out.now c.args.at (bytes count_long n)) c.min-kept.ensures in
+    let few = length-take c.min-n.result e.pointings in
+    let more : l.p-index < min e.pointing_count max_pointers = omega (arith, c.min-n.ensures) in
+    let here = get_or-take c.min-n.result e.pointings l.p-index past_pointing (omega arith) in
     rw here (turn_room pointer_form pointing_of max_pointers blank_pointing e.pointing_count e.pointings long c.args.out.now c.put_number.new.out c.args.at room counted l.out l.next l.p-index l.invariant past_pointing more)
 
 pub loop-p-preserved : goal.loop-p-preserved
@@ -37,10 +37,10 @@ loop-p-preserved c =
     let l = c.loop-p in
     let long : length e.pointings ≡ max_pointers = (has_room e _ c.well_formed.1.1.0).pointings in
     let room : c.args.at + length (section_bytes pointer_form pointing_of max_pointers blank_pointing e.pointing_count e.pointings) ≤ length c.args.out.now = rw (pointers_are e) c.requires in
-    let counted = c.put_number.ensures ∙ ap (λ (n : ℕ). put c.args.out.now c.args.at (bytes count_long n)) c.lesser-kept.ensures in
-    let few = length-take c.lesser-n.result e.pointings in
-    let more : l.p-index < min e.pointing_count max_pointers = omega (arith, c.lesser-n.ensures) in
-    let here = get_or-take c.lesser-n.result e.pointings l.p-index past_pointing (omega arith) in
+    let counted = c.put_number.ensures ∙ ap (λ (n : ℕ). put c.args.out.now c.args.at (bytes count_long n)) c.min-kept.ensures in
+    let few = length-take c.min-n.result e.pointings in
+    let more : l.p-index < min e.pointing_count max_pointers = omega (arith, c.min-n.ensures) in
+    let here = get_or-take c.min-n.result e.pointings l.p-index past_pointing (omega arith) in
     let w = rw here at c.put_pointing-next.ensures in
     turn_lays pointer_form pointing_of max_pointers blank_pointing e.pointing_count e.pointings long c.args.out.now c.put_number.new.out c.args.at room counted l.out l.next l.p-index l.invariant past_pointing more c.put_pointing-next.new.out c.put_pointing-next.result w.0 w.1
 
@@ -50,10 +50,10 @@ put_pointing-requires c =
     let l = c.loop-p in
     let long : length e.pointings ≡ max_pointers = (has_room e _ c.well_formed.1.1.0).pointings in
     let room : c.args.at + length (section_bytes pointer_form pointing_of max_pointers blank_pointing e.pointing_count e.pointings) ≤ length c.args.out.now = rw (pointers_are e) c.requires in
-    let counted = c.put_number.ensures ∙ ap (λ (n : ℕ). put c.args.out.now c.args.at (bytes count_long n)) c.lesser-kept.ensures in
-    let few = length-take c.lesser-n.result e.pointings in
+    let counted = c.put_number.ensures ∙ ap (λ (n : ℕ). put c.args.out.now c.args.at (bytes count_long n)) c.min-kept.ensures in
+    let few = length-take c.min-n.result e.pointings in
     let past : (min e.pointing_count max_pointers ≤ l.p-index) × (l.p-index < min e.pointing_count (suc max_pointers)) =
-    (omega (arith, c.lesser-n.ensures), omega (arith, l.invariant.0, c.lesser-n.ensures, c.lesser-kept.ensures)) in
+    (omega (arith, c.min-n.ensures), omega (arith, l.invariant.0, c.min-n.ensures, c.min-kept.ensures)) in
     rw (blank_pointing_lem c.blank_key-blank.result c.blank_key-blank.ensures) (last_room pointer_form pointing_of max_pointers blank_pointing e.pointing_count e.pointings long c.args.out.now c.put_number.new.out c.args.at room counted l.out l.next l.p-index l.invariant past.0 past.1)
 
 pub returns-then-n-kept : goal.returns-then-n-kept
@@ -62,10 +62,10 @@ returns-then-n-kept c =
     let l = c.loop-p in
     let long : length e.pointings ≡ max_pointers = (has_room e _ c.well_formed.1.1.0).pointings in
     let room : c.args.at + length (section_bytes pointer_form pointing_of max_pointers blank_pointing e.pointing_count e.pointings) ≤ length c.args.out.now = rw (pointers_are e) c.requires in
-    let counted = c.put_number.ensures ∙ ap (λ (n : ℕ). put c.args.out.now c.args.at (bytes count_long n)) c.lesser-kept.ensures in
-    let few = length-take c.lesser-n.result e.pointings in
+    let counted = c.put_number.ensures ∙ ap (λ (n : ℕ). put c.args.out.now c.args.at (bytes count_long n)) c.min-kept.ensures in
+    let few = length-take c.min-n.result e.pointings in
     let past : (min e.pointing_count max_pointers ≤ l.p-index) × (l.p-index < min e.pointing_count (suc max_pointers)) =
-    (omega (arith, c.lesser-n.ensures), omega (arith, l.invariant.0, c.lesser-n.ensures, c.lesser-kept.ensures)) in
+    (omega (arith, c.min-n.ensures), omega (arith, l.invariant.0, c.min-n.ensures, c.min-kept.ensures)) in
     let b = c.blank_key-blank in
     let laid = rw (blank_pointing_lem b.result b.ensures) at c.put_pointing.ensures in
     rw (← pointers_are e) (last_lays pointer_form pointing_of max_pointers blank_pointing e.pointing_count e.pointings long c.args.out.now c.put_number.new.out c.args.at room counted l.out l.next l.p-index l.invariant past.0 past.1 c.put_pointing.new.out c.put_pointing.result laid.0 laid.1)
@@ -76,6 +76,6 @@ returns c =
     let l = c.loop-p in
     let long : length e.pointings ≡ max_pointers = (has_room e _ c.well_formed.1.1.0).pointings in
     let room : c.args.at + length (section_bytes pointer_form pointing_of max_pointers blank_pointing e.pointing_count e.pointings) ≤ length c.args.out.now = rw (pointers_are e) c.requires in
-    let counted = c.put_number.ensures ∙ ap (λ (n : ℕ). put c.args.out.now c.args.at (bytes count_long n)) c.lesser-kept.ensures in
-    let few = length-take c.lesser-n.result e.pointings in
-    rw (← pointers_are e) (over_lays pointer_form pointing_of max_pointers blank_pointing e.pointing_count e.pointings long c.args.out.now c.put_number.new.out c.args.at room counted l.out l.next l.p-index l.invariant (omega (arith, l.invariant.0, c.lesser-n.ensures, c.lesser-kept.ensures)))
+    let counted = c.put_number.ensures ∙ ap (λ (n : ℕ). put c.args.out.now c.args.at (bytes count_long n)) c.min-kept.ensures in
+    let few = length-take c.min-n.result e.pointings in
+    rw (← pointers_are e) (over_lays pointer_form pointing_of max_pointers blank_pointing e.pointing_count e.pointings long c.args.out.now c.put_number.new.out c.args.at room counted l.out l.next l.p-index l.invariant (omega (arith, l.invariant.0, c.min-n.ensures, c.min-kept.ensures)))

@@ -21,13 +21,13 @@ get-number-requires c κs = search rules
 add-pointings-at : tie.Need-overflow_add-at
 add-pointings-at c = search rules
 
-lesser-requires : tie.Need-lesser-requires
-lesser-requires c κs = search rules
+min-requires : tie.Need-min-requires
+min-requires c κs = search rules
 
 pointings-at-requires : tie.Need-pointings_at-pointings-requires
 pointings-at-requires c κs =
     let g = c in
-    section_fewer number_long 1 (edit_pointers g.requires) max_pointers g.get_number-n.result g.get_number-n.ensures c.lesser.ensures
+    section_fewer number_long 1 (edit_pointers g.requires) max_pointers g.get_number-n.result g.get_number-n.ensures c.min.ensures
 
 pass-section-requires : tie.Need-pass_section-a-requires
 pass-section-requires c κs = search rules
@@ -46,13 +46,13 @@ get-number-requires-2 c κs = search rules
 add-deletions-at : tie.Need-overflow_add-a
 add-deletions-at c = search rules
 
-lesser-requires-2 : tie.Need-lesser-requires-2
-lesser-requires-2 c κs = search rules
+min-requires-2 : tie.Need-min-requires-2
+min-requires-2 c κs = search rules
 
 deletions-at-requires : tie.Need-deletions_at-deletions-requires
 deletions-at-requires c κs =
     let g = c in
-    section_fewer keys_at 0 (deletions g.before.before.before) max_deletions g.get_number-m.result g.get_number-m.ensures c.lesser-2.ensures
+    section_fewer keys_at 0 (deletions g.before.before.before) max_deletions g.get_number-m.result g.get_number-m.ensures c.min-2.ensures
 
 pass-section-requires-2 : tie.Need-pass_section-b-requires
 pass-section-requires-2 c κs = search rules
@@ -76,13 +76,13 @@ get-number-requires-3 c κs = search rules
 add-additions-at : tie.Need-overflow_add-b
 add-additions-at c = search rules
 
-lesser-requires-3 : tie.Need-lesser-requires-3
-lesser-requires-3 c κs = search rules
+min-requires-3 : tie.Need-min-requires-3
+min-requires-3 c κs = search rules
 
 additions-at-requires : tie.Need-additions_at-additions-requires
 additions-at-requires c κs =
     let g = c in
-    section_fewer (number_long + keys_at) 2 (additions g.before.before.before) max_additions g.get_number-k.result g.get_number-k.ensures c.lesser-3.ensures
+    section_fewer (number_long + keys_at) 2 (additions g.before.before.before) max_additions g.get_number-k.result g.get_number-k.ensures c.min-3.ensures
 
 add-pass-section : tie.Need-overflow_add-pass_section
 add-pass-section c = search rules
@@ -118,11 +118,11 @@ returns c =
     let z = p in
     let f = z in
     let b = f.requires in
-    let ps = section_filled number_long 1 (edit_pointers b) pointer_form pointer_measured max_pointers blank_pointing pointing_record f.get_number-n.result f.get_number-n.ensures z.lesser.ensures z.pointings_at-pointings.ensures in
+    let ps = section_filled number_long 1 (edit_pointers b) pointer_form pointer_measured max_pointers blank_pointing pointing_record f.get_number-n.result f.get_number-n.ensures z.min.ensures z.pointings_at-pointings.ensures in
     let np = section_long number_long 1 (edit_pointers b) pointer_form pointer_measured f.get_number-n.ensures in
-    let ds = section_filled keys_at 0 (deletions p) deletion_form deletion_measured max_deletions blank_deletion deletion_record g.get_number-m.result g.get_number-m.ensures y.lesser-2.ensures y.deletions_at-deletions.ensures in
+    let ds = section_filled keys_at 0 (deletions p) deletion_form deletion_measured max_deletions blank_deletion deletion_record g.get_number-m.result g.get_number-m.ensures y.min-2.ensures y.deletions_at-deletions.ensures in
     let nd = section_long keys_at 0 (deletions p) deletion_form deletion_measured g.get_number-m.ensures in
-    let xs = section_filled (number_long + keys_at) 2 (additions q) addition_form addition_measured max_additions blank_addition addition_record h.get_number-k.result h.get_number-k.ensures x.lesser-3.ensures x.additions_at-additions.ensures in
+    let xs = section_filled (number_long + keys_at) 2 (additions q) addition_form addition_measured max_additions blank_addition addition_record h.get_number-k.result h.get_number-k.ensures x.min-3.ensures x.additions_at-additions.ensures in
     let nx = section_long (number_long + keys_at) 2 (additions q) addition_form addition_measured h.get_number-k.ensures in
     let l = c.log_at-log.ensures in
     (λ i. record {
@@ -137,4 +137,4 @@ returns c =
     ∙ ap edit_record (sym (edit_value b (past_pointers_lem p) (past_deletions_lem q) (past_additions r)))
 
 pub edit_at_spec : {M : Type 1} → statement M
-edit_at_spec = tie.close (tie.spec get-number-requires add-pointings-at lesser-requires pointings-at-requires pass-section-requires get-number-requires-2 add-deletions-at lesser-requires-2 deletions-at-requires pass-section-requires-2 get-number-requires-3 add-additions-at lesser-requires-3 additions-at-requires add-pass-section pass-section-requires-3 log-at-requires returns)
+edit_at_spec = tie.close (tie.spec get-number-requires add-pointings-at min-requires pointings-at-requires pass-section-requires get-number-requires-2 add-deletions-at min-requires-2 deletions-at-requires pass-section-requires-2 get-number-requires-3 add-additions-at min-requires-3 additions-at-requires add-pass-section pass-section-requires-3 log-at-requires returns)
