@@ -124,6 +124,7 @@ pub fn widened(files: [FileRecord; Version::ROOM], from: usize, end: usize, span
 {
     let mut wide = span;
     let mut settled = false;
+    // How many passes there are is found in the body.
     while !settled {
         settled = true;
         for f in records::part(&files, from, end) {
