@@ -1,5 +1,5 @@
 -- The bytes that the controller adds to a record: its head, and an entry for each call. Assumes nothing.
-use Rattle.std.specs.Prelude.{ℕ, ◌+◌, ◌^◌, Bool, cond, List, ◌++◌, ltb, length}
+use Rattle.std.specs.Prelude.{ℕ, ◌+◌, ◌^◌, cond, List, ◌++◌, ltb, length}
 use Rattle.lemmas.specs.Little.{bytes}
 use Rattle.model.specs.Answer.{Answer, gives, refused}
 use Rattle.model.specs.File.{full, max_word}
@@ -8,7 +8,7 @@ use Rattle.model.specs.Edit as model
 use Rattle.model.specs.Snapshot.{count_long}
 use Rattle.model_replay.specs.Given.{Given}
 use Rattle.model_replay.specs.Form.{many}
-use Rattle.model_replay.specs.Recording.{Asked, asks_edit, asks_size, asks_range, asks_count, Settings, trimmed, calls_long, reuse_tag, mark_tag, last_tag, manifest_tag, previous_tag, pointer_form, deletion_form, addition_form, asked_form, settings_form, recorded_form}
+use Rattle.model_replay.specs.Recording.{Asked, asks_edit, asks_size, asks_range, asks_count, trimmed, calls_long, reuse_tag, mark_tag, last_tag, manifest_tag, previous_tag, pointer_form, deletion_form, addition_form, asked_form, settings_form, recorded_form}
 use Rattle.answers.specs.declared.Outcome.{Outcome}
 use Rattle.keys.specs.declared.Key.{Key}
 use Rattle.keys.specs.Key.{key_of}

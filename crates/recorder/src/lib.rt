@@ -118,11 +118,8 @@ fn put_pointings(out: &mut [u8], at: usize, e: Edit) -> usize
     let kept = octets::lesser(e.pointing_count, Edit::POINTINGS + 1);
     snapshot_parts::put_number(out, at, Snapshot::COUNT, kept as u64);
     let mut next = at + Snapshot::COUNT;
-    let mut i: usize = 0;
-    while i < n {
-        let p = e.pointings[i];
-        next = put_pointing(out, next, p);
-        i += 1;
+    for p in &e.pointings[..n] {
+        next = put_pointing(out, next, *p);
     }
     if n < kept {
         let blank = keys::blank_key();
@@ -147,11 +144,8 @@ fn put_deletions(out: &mut [u8], at: usize, e: Edit) -> usize
     let kept = octets::lesser(e.deletion_count, Edit::DELETIONS + 1);
     snapshot_parts::put_number(out, at, Snapshot::COUNT, kept as u64);
     let mut next = at + Snapshot::COUNT;
-    let mut i: usize = 0;
-    while i < n {
-        let d = e.deletions[i];
-        next = put_deletion(out, next, d);
-        i += 1;
+    for d in &e.deletions[..n] {
+        next = put_deletion(out, next, *d);
     }
     if n < kept {
         return put_deletion(
@@ -175,11 +169,8 @@ fn put_additions(out: &mut [u8], at: usize, e: Edit) -> usize
     let kept = octets::lesser(e.addition_count, Edit::ADDITIONS + 1);
     snapshot_parts::put_number(out, at, Snapshot::COUNT, kept as u64);
     let mut next = at + Snapshot::COUNT;
-    let mut i: usize = 0;
-    while i < n {
-        let a = e.additions[i];
-        next = put_addition(out, next, a);
-        i += 1;
+    for a in &e.additions[..n] {
+        next = put_addition(out, next, *a);
     }
     if n < kept {
         let blank = keys::blank_key();

@@ -1,11 +1,11 @@
 -- The answer of replaying a record: what code hands over. Assumes nothing.
-use Rattle.std.specs.Prelude.{ℕ, zero, suc, ◌+◌, ◌*◌, ◌-◌, ◌≡◌, Bool, true, false, List, [], ◌∷◌, length, take, drop, replicate}
+use Rattle.std.specs.Prelude.{ℕ, zero, suc, ◌+◌, ◌*◌, ◌-◌, ◌≡◌, true, false, List, [], ◌∷◌, length, take, replicate}
 use Rattle.std.proofs.Math.Option.{Option, none, some}
 use Rattle.lemmas.specs.Slices.{put}
 use Rattle.model.specs.Answer.{Answer, gives, refused}
 use Rattle.model.specs.File.{State, full}
 use Rattle.model.specs.Snapshot.{count_long, number_long}
-use Rattle.model_replay.specs.Recording.{calls_long, setting_count, Recorded, Recording, asked_form, given_form, recorded_form, read_recording}
+use Rattle.model_replay.specs.Recording.{calls_long, setting_count, Recorded, Recording, asked_form, recorded_form, read_recording}
 use Rattle.model_replay.specs.Replay.{Mismatch, Outcome, ended, differs, replayed_from}
 use Rattle.store.specs.declared.Store.{Store}
 use Rattle.store.specs.Store.{state_of, store_of}

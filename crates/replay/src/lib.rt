@@ -62,8 +62,7 @@ pub fn play(s: Store, recording: &[u8], room: &mut [u8]) -> Halt
     let n = snapshot_parse::get_number(recording, Record::COUNT, Record::CALLS);
     let mut t = s;
     let mut at = Record::FIRST;
-    let mut i: u64 = 0;
-    while i < n {
+    for i in 0..n {
         let asked = replay_scan::pass_asked(recording, at);
         let from = asked.at;
         let answer = replay_scan::pass_given(recording, from);
@@ -82,7 +81,6 @@ pub fn play(s: Store, recording: &[u8], room: &mut [u8]) -> Halt
         }
         t = made.store;
         at = to;
-        i += 1;
     }
     Halt {
         store: t,

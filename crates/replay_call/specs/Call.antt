@@ -9,12 +9,11 @@ use Rattle.model.specs.Edit.{empty_edit}
 use Rattle.model.specs.History as history
 use Rattle.model.specs.History.{picks_range, after}
 use Rattle.model.specs.Counters.{CounterCall, new, reuse, mark, last, manifest, previous, counter}
-use Rattle.model.specs.Snapshot.{Read, Reader}
+use Rattle.model.specs.Snapshot.{Read}
 use Rattle.model_replay.specs.Given.{given}
 use Rattle.model_replay.specs.Held.{held_key}
-use Rattle.model_replay.specs.Recording.{Asked, asks_size, call_of, edit_form, range_form, count_form, asked_form}
+use Rattle.model_replay.specs.Recording.{Asked, asks_size, edit_form, range_form, count_form, asked_form}
 use Rattle.keys.specs.Key.{key_record}
-use Rattle.keys.specs.declared.Key.{Key}
 use Rattle.edit.specs.declared.Deletion.{Deletion}
 use Rattle.edit.specs.declared.Addition.{Addition}
 use Rattle.edit.specs.declared.Pointing.{Pointing}

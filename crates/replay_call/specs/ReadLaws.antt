@@ -4,7 +4,7 @@ use Rattle.std.specs.Prelude.{◌≡◌, Bool, length, take, set, replicate}
 use Rattle.std.proofs.Math.Path.{refl, ap, sym, subst}
 use Rattle.std.proofs.Common.{◌∙◌, length-take, length-drop, length-set, take-take}
 use Rattle.std.proofs.Math.Bool.{cond, true, false}
-use mathlib.Core.List.{List, [], ◌∷◌, map}
+use mathlib.Core.List.{List, [], ◌∷◌, ◌++◌, map}
 use Rattle.std.proofs.Math.Option.{Option, none, some}
 use native.Mathlib.Omega.{arith}
 use Rattle.std.proofs.Math.Nat.{sub-zero}
@@ -12,9 +12,10 @@ use borrow.Author.Tests.{leb-true, leb-false, le-leb, lt-leb}
 use Rattle.std.proofs.Math.Dec.{leb}
 use Rattle.std.proofs.Math.ListN.{drop, length-replicate}
 use Rattle.std.proofs.Math.Seq.{drop-drop, take_all}
+use Rattle.std.proofs.lemmas.List.{take-replicate, length-map}
 use Rattle.lemmas.specs.Order.{clash}
 use Rattle.lemmas.specs.Little.{number}
-use Rattle.lemmas.specs.Slices.{put, put_cons, put_nil}
+use Rattle.lemmas.specs.Slices.{put, put_cons, put_nil, put_whole, put_front}
 use Rattle.model.specs.Key as key
 use Rattle.model.specs.File.{full, key_room}
 use Rattle.model.specs.Edit.{empty_edit}
@@ -436,6 +437,27 @@ module _ {A B : Type 0} {f : Takes} {r : Reader A} (M : Measures f r) (g : A →
     pub fill_over : n ≤ i → out ≡ filled room blank g (value_or [] (times n r (drop at src)))
     unfolding times give value_or
     fill_over h = let e : n - i ≡ 0 = omega arith in sym (put_nil out i) ∙ rw e at l.same
+
+  -- the same for the front of an array that has room for more
+  module _ {room n at : ℕ} {blank x : B} (h : n ≤ room) (b : Begins (repeated n f) src at) (e : x ≡ blank) where
+    -- none is put yet
+    pub front_begins : FilledTo f r g blank src at n n (take n (replicate room x)) at 0
+    front_begins =
+        let front : replicate n x ≡ take n (replicate room x) = sym (take-replicate n room x h) in
+        subst (λ (out : List B). FilledTo f r g blank src at n n out at 0) front (fill_begins {room = n} {n = n} {at = at} {blank = blank} {x = x} (omega arith) b e)
+
+    -- all are put: the array is that which they fill
+    pub front_over : {out : List B} {next i : ℕ} → FilledTo f r g blank src at n n out next i → n ≤ i → out ++ drop n (replicate room x) ≡ filled room blank g (value_or [] (times n r (drop at src)))
+    unfolding filled
+    front_over {out} l k =
+        let vs = value_or [] (times n r (drop at src)) in
+        let long = many_long M n b in
+        let size = length-map vs g in
+        let all : take n vs ≡ vs = take_all n vs (omega arith) in
+        let put_all : out ≡ map g vs =
+        fill_over l k ∙ ap (λ (ws : List A). put (replicate n blank) 0 (map g ws)) all ∙ put_whole (replicate n blank) (map g vs) (omega (arith, length-replicate {A = B} n blank)) in
+        let rest : drop n (replicate room x) ≡ drop (length (map g vs)) (replicate room blank) = rw (e, size, long) in
+        rw (put_all, rest, take_all room vs (omega arith)) (sym (put_front (replicate room blank) (map g vs)))
 
   -- as many as there is room for make the same array as all
   pub filled_fewer : {at : ℕ} (room n : ℕ) (blank : B) → Begins (repeated n f) src at → filled room blank g (value_or [] (times (min n room) r (drop at src))) ≡ filled room blank g (value_or [] (times n r (drop at src)))

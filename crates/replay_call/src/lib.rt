@@ -70,17 +70,15 @@ fn pointings_at(src: &[u8], at: usize, n: usize) -> [Pointing; Edit::POINTINGS]
         key: blank,
     }; Edit::POINTINGS];
     let mut next = at;
-    let mut i: usize = 0;
-    while i < n {
+    for p in &mut out[..n] {
         let level = snapshot_parse::get_number(src, next, Snapshot::NUMBER);
         let k = key_at(src, next + Snapshot::NUMBER);
         let key = k.key;
-        out[i] = Pointing {
+        *p = Pointing {
             level: level as usize,
             key: key,
         };
         next = k.next;
-        i += 1;
     }
     out
 }
@@ -95,16 +93,14 @@ fn deletions_at(src: &[u8], at: usize, n: usize) -> [Deletion; Edit::DELETIONS]
         number: FileNumber(0),
     }; Edit::DELETIONS];
     let mut next = at;
-    let mut i: usize = 0;
-    while i < n {
+    for d in &mut out[..n] {
         let level = snapshot_parse::get_number(src, next, Snapshot::NUMBER);
         let number = snapshot_parse::get_number(src, next + Snapshot::NUMBER, Snapshot::NUMBER);
-        out[i] = Deletion {
+        *d = Deletion {
             level: level as usize,
             number: FileNumber(number),
         };
         next += Snapshot::KEYS;
-        i += 1;
     }
     out
 }
@@ -123,8 +119,7 @@ fn additions_at(src: &[u8], at: usize, n: usize) -> [Addition; Edit::ADDITIONS]
         largest: blank,
     }; Edit::ADDITIONS];
     let mut next = at;
-    let mut i: usize = 0;
-    while i < n {
+    for a in &mut out[..n] {
         let level = snapshot_parse::get_number(src, next, Snapshot::NUMBER);
         let file = next + Snapshot::NUMBER;
         let number = snapshot_parse::get_number(src, file, Snapshot::NUMBER);
@@ -133,7 +128,7 @@ fn additions_at(src: &[u8], at: usize, n: usize) -> [Addition; Edit::ADDITIONS]
         let high = key_at(src, low.next);
         let smallest = low.key;
         let largest = high.key;
-        out[i] = Addition {
+        *a = Addition {
             level: level as usize,
             number: FileNumber(number),
             size: size,
@@ -141,7 +136,6 @@ fn additions_at(src: &[u8], at: usize, n: usize) -> [Addition; Edit::ADDITIONS]
             largest: largest,
         };
         next = high.next;
-        i += 1;
     }
     out
 }
