@@ -1,5 +1,5 @@
 -- Demand 3 on the code's calls: what histories of a fresh store leave and write, and what is read from bytes. Assumes nothing.
-use Rattle.std.specs.Prelude.{ℕ, ◌-◌, ◌<◌, ◌≤◌, ◌^◌, ◌≡◌, refl, ◌↔◌, ◌⊎◌, Bool, true, false, get_or, take, drop, replicate}
+use Rattle.std.specs.Prelude.{ℕ, ◌-◌, ◌<◌, ◌≤◌, ◌^◌, ◌≡◌, refl, ◌↔◌, ◌⊎◌, Bool, true, false, get_or, take, drop, replicate, Result, Ok, Err}
 use Rattle.std.proofs.Common.{sym, ap, ◌∙◌, subst, inl, inr, arith, take-append-drop}
 use mathlib.Core.List.Memᴰ.{append_cases}
 use mathlib.Core.List.Memᴰ.{append_left as in_left}
@@ -28,21 +28,23 @@ use Rattle.model.specs.Snapshot.{by_number, encode, decode, longest_snapshot}
 use Rattle.model.proofs.SnapshotLaws.{full_fits}
 use Rattle.model.proofs.Demand3.{WordCalls, fresh_formed, demand_3}
 use Rattle.model.proofs.Reading.{in_read_order, as_read, decode_sound, decode_encode}
-use Rattle.answers.specs.Outcome.{outcome_of}
-use Rattle.answers.specs.declared.Outcome.TheVariants.{Done}
+use Rattle.std.specs.Result.{result_unwrap_or}
+use Rattle.answers.specs.Outcome.{result_of}
+use Rattle.answers.specs.declared.Refusal.{Refusal}
+use Rattle.answers.specs.declared.Refusal.TheVariants.{Form}
 use Rattle.edit.specs.declared.Addition.{Addition}
 use Rattle.edit.specs.declared.Edit.{Edit}
 use Rattle.edit.specs.Edit.{edit_of, addition_of, blank_addition, entries}
 use Rattle.keys.specs.Key.{key_of}
-use Rattle.pick_answer.specs.Picked.{pick_of}
+use Rattle.pick_answer.specs.Picked.{pick_record, pick_of}
 use Rattle.store.specs.declared.Store.{Store}
-use Rattle.store.specs.declared.Stored.{Stored}
-use Rattle.store.specs.Store.{state_of, store_of, well_store, on_store, leaves, stored, refused_by}
+use Rattle.store.specs.Store.{state_of, store_of, well_store, on_store, leaves, stored}
 use Rattle.store.specs.StoreLaws as store
-use Rattle.store_numbers.specs.Numbering.{handed}
+use Rattle.store_numbers.specs.declared.Handed.{Handed}
+use Rattle.store_numbers.specs.Numbering.{handed_record, handed}
 use Rattle.snapshot_write.specs.Writing.{snapshot_of}
 use Rattle.snapshot_write.specs.WritingLaws.{written_ill, written_well, snapshot_most}
-use Rattle.history.specs.History.{Call, apply, pick_size, pick_range, new_number, reuse_number, mark_number, set_last, set_manifest, set_previous, called, call_of, Passable, fresh_store, ran, written, read_back}
+use Rattle.history.specs.History.{Call, apply, pick_size, pick_range, new_number, reuse_number, mark_number, set_last, set_manifest, set_previous, called, call_of, Passable, left, fresh_store, ran, written, read_back}
 
 -- ---- one call
 
@@ -68,40 +70,45 @@ unfolding leaves kept
 leaves_step s (gives t) h k = let w = k t refl in record { held = held_state t w; state = (store.held t ((formed_says full t).1 w)).0 }
 leaves_step s (refused n) h k = record { held = h; state = refl }
 
+-- that is the store after the call
+stored_left : (s : Store) (a : Answer State) → result_unwrap_or (stored a) s ≡ leaves s a
+unfolding stored result_of leaves
+stored_left s (gives t) = refl
+stored_left s (refused n) = refl
+
 -- a call on a store gives its answer for the state
 stored_step : (s : Store) (call : State → Answer State) → HoldsState s → ((t : State) → call (state_of s) ≡ gives t → WF full t)
-    → Step (stored s (on_store s call)).store (kept (state_of s) (call (state_of s)))
-unfolding stored
-stored_step s call h k = rw (store.on_store_well s call h.well) (leaves_step s (call (state_of s)) h k)
+    → Step (result_unwrap_or (stored (on_store s call)) s) (kept (state_of s) (call (state_of s)))
+stored_step s call h k = rw (stored_left s (on_store s call)) (rw (store.on_store_well s call h.well) (leaves_step s (call (state_of s)) h k))
 
 -- a counter call
-count_step : (s : Store) (d : CounterCall) → HoldsState s → Step (stored s (on_store s (λ t. counter full t d))).store (kept (state_of s) (counter full (state_of s) d))
+count_step : (s : Store) (d : CounterCall) → HoldsState s → Step (result_unwrap_or (stored (on_store s (λ t. counter full t d))) s) (kept (state_of s) (counter full (state_of s) d))
 count_step s d h = stored_step s (λ t. counter full t d) h (λ t q. count_keeps full (state_of s) d t q)
 
 -- new leaves the store that its counter call leaves
-handed_store : (s : Store) (f : State → calls.Handed) (a : Answer State) → ((t : State) → (f t).after ≡ t) → (handed s (on_answer f a)).store ≡ leaves s a
-unfolding handed on_answer leaves
+handed_store : (s : Store) (f : State → calls.Handed) (a : Answer State) → ((t : State) → (f t).after ≡ t) → left (λ h. h.store) (handed (on_answer f a)) s ≡ leaves s a
+unfolding handed handed_record result_of on_answer leaves
 handed_store s f (gives t) e = ap store_of (e t)
 handed_store s f (refused n) e = refl
 
 -- so new is a counter call
-new_step : (s : Store) → HoldsState s → Step (handed s (on_store s (calls.new_number full))).store (kept (state_of s) (counter full (state_of s) new))
+new_step : (s : Store) → HoldsState s → Step (left (λ h. h.store) (handed (on_store s (calls.new_number full))) s) (kept (state_of s) (counter full (state_of s) new))
 new_step s h =
     let f : State → calls.Handed = λ t. record { number = (state_of s).counters.next; after = t } in
     let a = counter full (state_of s) new in
-    let e : (handed s (on_store s (calls.new_number full))).store ≡ leaves s a =
-    ap (λ (x : Answer calls.Handed). (handed s x).store) (store.on_store_well s (calls.new_number full) h.well ∙ new_is full (state_of s)) ∙ handed_store s f a (λ t. refl) in
+    let e : left (λ (h : Handed). h.store) (handed (on_store s (calls.new_number full))) s ≡ leaves s a =
+    ap (λ (x : Answer calls.Handed). left (λ (h : Handed). h.store) (handed x) s) (store.on_store_well s (calls.new_number full) h.well ∙ new_is full (state_of s)) ∙ handed_store s f a (λ t. refl) in
     rw e (leaves_step s a h (λ t q. count_keeps full (state_of s) new t q))
 
 -- the same by a pick's answer
-pick_leaves : (s : Store) (a : Answer Pick) → HoldsState s → ((k : Pick) → a ≡ gives k → WF full k.after) → Step (pick_of s a).store (kept_pick (state_of s) a)
-unfolding pick_of kept_pick
+pick_leaves : (s : Store) (a : Answer Pick) → HoldsState s → ((k : Pick) → a ≡ gives k → WF full k.after) → Step (left (λ k. k.store) (pick_of a) s) (kept_pick (state_of s) a)
+unfolding pick_of pick_record result_of kept_pick
 pick_leaves s (gives k) h w = let f = w k refl in record { held = held_state k.after f; state = (store.held k.after ((formed_says full k.after).1 f)).0 }
 pick_leaves s (refused n) h w = record { held = h; state = refl }
 
 -- a pick on a store gives its answer for the state
 pick_step : (s : Store) (call : State → Answer Pick) → HoldsState s → ((k : Pick) → call (state_of s) ≡ gives k → WF full k.after)
-    → Step (pick_of s (on_store s call)).store (kept_pick (state_of s) (call (state_of s)))
+    → Step (left (λ k. k.store) (pick_of (on_store s call)) s) (kept_pick (state_of s) (call (state_of s)))
 pick_step s call h w = rw (store.on_store_well s call h.well) (pick_leaves s (call (state_of s)) h w)
 
 -- the file numbers that an edit adds fit 64 bits. Blank additions beyond its room have number 0
@@ -240,18 +247,19 @@ module _ (h k : List Call) (p : Each Passable h) (q : Each Passable k) where
 -- ---- a snapshot read back
 
 -- a successful reading with the same files at each level, pointers and counters, in a store that writes the same bytes again
-pub record SameRead (s : Store) (r : Stored) : Type 0 where
-  pub outcome : r.outcome ≡ Done
-  pub held : HoldsState r.store
-  pub files : (l : ℕ) (f : File) → In f (level (state_of r.store) l) ↔ In f (level (state_of s) l)
-  pub pointers : (state_of r.store).pointers ≡ (state_of s).pointers
-  pub counters : (state_of r.store).counters ≡ (state_of s).counters
-  pub again : written r.store ≡ written s
+pub record SameRead (s : Store) (r : Result Store Refusal) : Type 0 where
+  pub store : Store
+  pub read : r ≡ Ok store
+  pub held : HoldsState store
+  pub files : (l : ℕ) (f : File) → In f (level (state_of store) l) ↔ In f (level (state_of s) l)
+  pub pointers : (state_of store).pointers ≡ (state_of s).pointers
+  pub counters : (state_of store).counters ≡ (state_of s).counters
+  pub again : written store ≡ written s
 
 -- bytes that are a snapshot read as the store of their state
-read_is : (bs : List ℕ) (t : State) → decode full bs ≡ some t → read_back bs ≡ stored fresh_store (gives t)
-unfolding read_back calls.read calls.or_bad
-read_is bs t d = ap (λ (o : Option State). stored fresh_store (calls.or_bad o)) d
+read_is : (bs : List ℕ) (t : State) → decode full bs ≡ some t → read_back bs ≡ Ok (store_of t)
+unfolding read_back calls.read calls.or_bad stored result_of
+read_is bs t d = ap (λ (o : Option State). stored (calls.or_bad o)) d
 
 -- the files of a level as read are those of the level
 as_read_in : (t : State) (l : ℕ) (f : File) → In f (level (as_read t) l) ↔ In f (level t l)
@@ -265,7 +273,7 @@ as_read_in t l f =
 
 -- demand 3: reading a snapshot back leaves the same files, pointers and counters
 pub reads_back : (s : Store) (bs : List ℕ) → written s ≡ gives bs → SameRead s (read_back bs)
-unfolding stored leaves outcome_of as_read
+unfolding as_read
 reads_back s bs h =
     let w = wrote s bs h in
     let t = state_of s in
@@ -274,8 +282,9 @@ reads_back s bs h =
     let sound = decode_sound full bs u d in
     let e : state_of (store_of u) ≡ u = (store.held u sound.0).0 in
     let well = store.held_well u sound.0 in
-    subst (λ (r : Stored). SameRead s r) (sym (read_is bs u d)) record {
-      outcome = refl;
+    record {
+      store = store_of u;
+      read = read_is bs u d;
       held = held_state u ((formed_says full u).0 sound.0);
       files = λ l f. rw e (as_read_in t l f);
       pointers = ap (λ (x : State). x.pointers) e;
@@ -303,17 +312,16 @@ refuses_states bs = (λ e t f k. from e t f k, λ h. to h (decode full bs) refl)
     to h none d = refl
     to h (some t) d = let sound = decode_sound full bs t d in absurd (h t sound.0 sound.1)
 
--- the same for stores: reading refuses with 14, and leaves a fresh store, exactly for the bytes that no store writes
-pub refuses : (bs : List ℕ) → read_back bs ≡ refused_by fresh_store 14 ↔ ((s : Store) → written s ≡ gives bs → ⊥)
-unfolding read_back refused_by stored outcome_of
+-- the same for stores: reading refuses with 14 exactly the bytes that no store writes
+pub refuses : (bs : List ℕ) → read_back bs ≡ Err Form ↔ ((s : Store) → written s ≡ gives bs → ⊥)
+unfolding read_back stored result_of
 refuses bs = (λ e s k. from e s k, λ h. to h)
   where
-    from : read_back bs ≡ refused_by fresh_store 14 → (s : Store) → written s ≡ gives bs → ⊥
+    from : read_back bs ≡ Err Form → (s : Store) → written s ≡ gives bs → ⊥
     from e s k =
-        let a = (reads_back s bs k).outcome in
-        let b = ap (λ (r : Stored). r.outcome) e in
+        let a = (reads_back s bs k).read in
         let z : true ≡ false = cc in
         clash refl z
 
-    to : ((s : Store) → written s ≡ gives bs → ⊥) → read_back bs ≡ refused_by fresh_store 14
-    to h = ap (stored fresh_store) ((refuses_states bs).1 (λ t f k. h (store_of t) (writes (store_of t) (store.held_well t f) ∙ ap (λ (x : State). gives (encode x)) (store.held t f).0 ∙ ap gives k)))
+    to : ((s : Store) → written s ≡ gives bs → ⊥) → read_back bs ≡ Err Form
+    to h = ap stored ((refuses_states bs).1 (λ t f k. h (store_of t) (writes (store_of t) (store.held_well t f) ∙ ap (λ (x : State). gives (encode x)) (store.held t f).0 ∙ ap gives k)))

@@ -1,5 +1,5 @@
 -- Histories of the code's calls on a store, and the bytes that the store they leave writes and reads. Assumes nothing.
-use Rattle.std.specs.Prelude.{ℕ, ◌<◌, ◌^◌}
+use Rattle.std.specs.Prelude.{ℕ, ◌<◌, ◌^◌, Result, Ok, Err}
 use mathlib.Core.List.{List, [], ◌∷◌, Memᴰ as In}
 use Rattle.model.specs.Snapshot.{longest_snapshot}
 use Rattle.model.specs.Answer.{Answer}
@@ -9,6 +9,8 @@ use Rattle.model.specs.Counters.{new, reuse, mark, last, manifest, previous, cou
 use Rattle.model.specs.Calls as calls
 use Rattle.model.specs.Pick.{size_pick, manual_pick}
 use Rattle.model.specs.History as model
+use Rattle.std.specs.Result.{result_unwrap_or}
+use Rattle.answers.specs.declared.Refusal.{Refusal}
 use Rattle.keys.specs.Key.{key_of}
 use Rattle.keys.specs.declared.Key.{Key}
 use Rattle.keys.specs.declared.FileNumber.{FileNumber}
@@ -18,7 +20,6 @@ use Rattle.edit.specs.declared.Edit.{Edit}
 use Rattle.edit.specs.Edit.{edit_of}
 use Rattle.pick_answer.specs.Picked.{pick_of}
 use Rattle.store.specs.declared.Store.{Store}
-use Rattle.store.specs.declared.Stored.{Stored}
 use Rattle.store.specs.Store.{store_of, on_store, stored}
 use Rattle.store_numbers.specs.Numbering.{handed}
 use Rattle.snapshot_write.specs.Writing.{snapshot_of}
@@ -35,17 +36,22 @@ pub data Call : Type 0 where
   set_manifest : FileNumber → Call
   set_previous : FileNumber → Call
 
--- the store after a call, accepted or refused: the store on the right side of the call's contract
+-- the store after a call that returns more than a store: the one in what it returns, or after a refusal the caller's own
+abbrev pub left : {A : Type 0} → (A → Store) → Result A Refusal → Store → Store
+left f (Ok a) s = f a
+left f (Err r) s = s
+
+-- the store after a call, accepted or refused, by the right side of the call's contract
 unfoldable pub called : Store → Call → Store
-called s (apply e) = (stored s (on_store s (λ t. edit full t (edit_of e)))).store
-called s (pick_size m) = (pick_of s (on_store s (λ t. size_pick full t m))).store
-called s (pick_range m l a b) = (pick_of s (on_store s (λ t. manual_pick full t m l (key_of a) (key_of b)))).store
-called s new_number = (handed s (on_store s (calls.new_number full))).store
-called s (reuse_number n) = (stored s (on_store s (λ t. counter full t (reuse n.0)))).store
-called s (mark_number n) = (stored s (on_store s (λ t. counter full t (mark n.0)))).store
-called s (set_last n) = (stored s (on_store s (λ t. counter full t (last n.0)))).store
-called s (set_manifest n) = (stored s (on_store s (λ t. counter full t (manifest n.0)))).store
-called s (set_previous n) = (stored s (on_store s (λ t. counter full t (previous n.0)))).store
+called s (apply e) = result_unwrap_or (stored (on_store s (λ t. edit full t (edit_of e)))) s
+called s (pick_size m) = left (λ k. k.store) (pick_of (on_store s (λ t. size_pick full t m))) s
+called s (pick_range m l a b) = left (λ k. k.store) (pick_of (on_store s (λ t. manual_pick full t m l (key_of a) (key_of b)))) s
+called s new_number = left (λ h. h.store) (handed (on_store s (calls.new_number full))) s
+called s (reuse_number n) = result_unwrap_or (stored (on_store s (λ t. counter full t (reuse n.0)))) s
+called s (mark_number n) = result_unwrap_or (stored (on_store s (λ t. counter full t (mark n.0)))) s
+called s (set_last n) = result_unwrap_or (stored (on_store s (λ t. counter full t (last n.0)))) s
+called s (set_manifest n) = result_unwrap_or (stored (on_store s (λ t. counter full t (manifest n.0)))) s
+called s (set_previous n) = result_unwrap_or (stored (on_store s (λ t. counter full t (previous n.0)))) s
 
 -- the call of the model that a call of the code stands for
 unfoldable pub call_of : Call → model.Call
@@ -84,6 +90,6 @@ ran s (c ∷ cs) = ran (called s c) cs
 unfoldable pub written : Store → Answer (List ℕ)
 written s = snapshot_of s longest_snapshot
 
--- the answer of reading bytes: the store that they hold, or 14 and a fresh store
-unfoldable pub read_back : List ℕ → Stored
-read_back bs = stored fresh_store (calls.read full bs)
+-- the result of reading bytes: the store that they hold, or refusal 14
+unfoldable pub read_back : List ℕ → Result Store Refusal
+read_back bs = stored (calls.read full bs)

@@ -1,6 +1,6 @@
 -- Laws of the bytes that the controller records: the sections of an edit, how long an entry is, and its parts laid one after another. Assumes nothing.
 use Prim.Native.Nat.{ℕ, suc, ◌+◌, ◌-◌, ◌*◌, ◌^◌, ◌≤◌, ◌<◌, min}
-use Rattle.std.specs.Prelude.{◌≡◌, true, false}
+use Rattle.std.specs.Prelude.{◌≡◌, true, false, Option, None, Some, Result, Ok, Err}
 use Rattle.std.proofs.Math.Path.{refl, sym, ap}
 use Rattle.std.proofs.Common.{◌∙◌, mul-le-mul_right, drop_of_length-le, take_all}
 use mathlib.Core.List.{List, [], ◌∷◌, ◌++◌, map, map-map, append_assoc, append-nil, Option-to_list}
@@ -23,8 +23,8 @@ use Rattle.model.proofs.SnapshotLaws.{section_length, write_key_length}
 use Rattle.model_replay.specs.Form.{Form, num, key_form, file_form, pair, shaped, only, many, tag}
 use Rattle.model_replay.specs.Given.{Given}
 use Rattle.model_replay.specs.Recording.{Asked, asks_size, asks_range, asks_count, trimmed, calls_long, setting_count, edit_tag, size_tag, range_tag, count_tag, new_tag, handed_tag, pointer_form, deletion_form, addition_form, log_form, edit_form, range_form, write_count, count_form, write_asked, asked_form, recorded_form, settings_form}
-use Rattle.answers.specs.declared.Outcome.{Outcome}
-use Rattle.answers.specs.declared.Outcome.TheVariants.{Done, Refused}
+use Rattle.answers.specs.Outcome.{answer_of, filling}
+use Rattle.answers.specs.declared.Refusal.{Refusal}
 use Rattle.keys.specs.declared.Key.{Key}
 use Rattle.keys.specs.declared.FileNumber.{FileNumber}
 use Rattle.keys.specs.Key.{key_of, key_record}
@@ -32,15 +32,11 @@ use Rattle.keys.specs.KeyLaws.{key_of_length, key_of_record}
 use Rattle.edit.specs.declared.Pointing.{Pointing}
 use Rattle.edit.specs.declared.Deletion.{Deletion}
 use Rattle.edit.specs.declared.Addition.{Addition}
-use Rattle.edit.specs.declared.NewLog.{NewLog}
-use Rattle.edit.specs.declared.NewLog.TheVariants.{Keeps, Becomes}
 use Rattle.edit.specs.declared.Edit.{Edit}
 use Rattle.edit.specs.Edit.{entries, blank_pointing, blank_deletion, blank_addition, pointing_of, deletion_of, addition_of, log_of, edit_of}
 use Rattle.edit.specs.EditLaws.{HasRoom, entries_length}
 use Rattle.pick_answer.specs.declared.Picked.{Picked}
 use Rattle.snapshot_parts.specs.LayingLaws.{write_file_parts, file_laid, section_laid}
-use Rattle.snapshot_write.specs.declared.Written.{Written}
-use Rattle.snapshot_write.specs.Writing.{written_of}
 use Rattle.replay_given.specs.Given.{said_by, plain_given, handed_given, picked_given, given_bytes, short_given, longest_given, can_tell}
 use Rattle.replay_given.specs.GivenLaws.{tag_long, tag_laid, bare_long, bare_laid, numbered_long, numbered_laid, handed_is, plain_long, given_long, can_tell_says}
 use Rattle.recorder.specs.declared.Counter.{Counter}
@@ -393,7 +389,7 @@ blank_addition_lem k e = λ i. record { level = 0; number = record { 0 = 0 }; si
 -- ---- the log number
 
 -- an edit that names none: a count of 0
-module _ (n : NewLog) (e : n ≡ Keeps) where
+module _ (n : Option FileNumber) (e : n ≡ None) where
   -- its bytes
   keeps_is : bytes count_long 0 ≡ log_form.write (log_of n)
   unfolding log_form shaped only many num log_of join Option-to_list
@@ -408,7 +404,7 @@ module _ (n : NewLog) (e : n ≡ Keeps) where
   keeps_laid out o at f = f ∙ ap (put out at) keeps_is
 
 -- an edit that names one: a count of 1, then the number
-module _ (n : NewLog) (m : FileNumber) (e : n ≡ Becomes m) where
+module _ (n : Option FileNumber) (m : FileNumber) (e : n ≡ Some m) where
   -- its bytes
   becomes_is : bytes count_long 1 ++ bytes number_long m.0 ≡ log_form.write (log_of n)
   unfolding log_form shaped only many num log_of join Option-to_list
@@ -425,9 +421,9 @@ module _ (n : NewLog) (m : FileNumber) (e : n ≡ Becomes m) where
       put_next out o₁ o₂ at (at + 2) (bytes count_long 1) (bytes number_long m.0) (omega arith) e₁ (omega arith) e₂ ∙ ap (put out at) becomes_is
 
 -- at most ten bytes
-log_most : (n : NewLog) → length (log_form.write (log_of n)) ≤ 10
-log_most Keeps = omega (arith, keeps_long Keeps refl)
-log_most (Becomes m) = omega (arith, becomes_long (Becomes m) m refl)
+log_most : (n : Option FileNumber) → length (log_form.write (log_of n)) ≤ 10
+log_most None = omega (arith, keeps_long None refl)
+log_most (Some m) = omega (arith, becomes_long (Some m) m refl)
 
 -- ---- an edit
 
@@ -498,8 +494,8 @@ module _ (e : Edit) where
       let l₅ = put_next out o₄ o₅ at c to_additions (log_form.write (log_of e.log)) (omega arith) l₄ (omega arith) e₅ in
       (omega arith, l₅ ∙ ap (put out at) edit_is)
 
-  -- with its outcome it is shorter than the longest entry
-  pub edit_most : HasRoom e → (o : Outcome) → length (edit_bytes e) + length (given_bytes (plain_given o)) ≤ longest_entry
+  -- with its result it is shorter than the longest entry
+  pub edit_most : HasRoom e → (o : Result Unit Refusal) → length (edit_bytes e) + length (given_bytes (plain_given o)) ≤ longest_entry
   edit_most r o =
       let p = parts_most pointer_form pointing_of max_pointers blank_pointing e.pointing_count e.pointings r.pointings 49 pointing_most in
       let d = parts_most deletion_form deletion_of max_deletions blank_deletion e.deletion_count e.deletions r.deletions 16 (λ x. omega (arith, deletion_long x)) in
@@ -612,16 +608,16 @@ module _ (c : Counter) (n : ℕ) where
 -- ---- answers
 
 -- the answer of new is no longer than a number handed out
-pub handed_long : (o : Outcome) (n : ℕ) → length (given_bytes (handed_given o n)) ≤ short_given
+pub handed_long : (o : Result FileNumber Refusal) → length (given_bytes (handed_given o)) ≤ short_given
 unfolding said_by
-handed_long Done n = omega (arith, numbered_long (given_bytes (handed_given Done n)) handed_tag number_long n (handed_is Done n refl))
-handed_long (Refused k) n = plain_long (Refused k)
+handed_long (Ok n) = omega (arith, numbered_long (given_bytes (handed_given (Ok n))) handed_tag number_long n.0 (handed_is (Ok n) n refl))
+handed_long (Err r) = plain_long (Err r)
 
 -- the answer of a pick that can be kept is no longer than the longest
-pub told_long : (o : Outcome) (c : Picked) → can_tell o c ≡ true → length (given_bytes (picked_given o c)) ≤ longest_given
+pub told_long : (o : Result Picked Refusal) → can_tell o ≡ true → length (given_bytes (picked_given o)) ≤ longest_given
 unfolding said_by
-told_long Done c h = given_long c (can_tell_says Done c refl h).0
-told_long (Refused k) c h = omega (arith, plain_long (Refused k))
+told_long (Ok c) h = given_long c (can_tell_says (Ok c) c refl h).0
+told_long (Err r) h = omega (arith, plain_long (Err r))
 
 -- ---- entries
 
@@ -645,20 +641,20 @@ module _ (a : Asked) (g : Given) where
       front_laid own o₂ (asked_form.write a ++ given_bytes g) (n - 0) (omega arith) laid ∙ entry_is
 
   -- handing out these bytes is handing out the entry
-  pub entry_said : (bs out o : List ℕ) (r : Written) → bs ≡ entry_bytes → (r ≡ written_of (roomed bs (length out))) × (o ≡ lent (roomed bs (length out)) out)
-      → (r ≡ written_of (entry a g (length out))) × (o ≡ lent (entry a g (length out)) out)
+  pub entry_said : (bs out o : List ℕ) (r : Result ℕ Refusal) → bs ≡ entry_bytes → (answer_of r ≡ filling (roomed bs (length out))) × (o ≡ lent (roomed bs (length out)) out)
+      → (answer_of r ≡ filling (entry a g (length out))) × (o ≡ lent (entry a g (length out)) out)
   unfolding entry
   entry_said bs out o r e h = rw e at h
 
 -- a pick
-module _ (a : Asked) (o : Outcome) (c : Picked) where
+module _ (a : Asked) (o : Result Picked Refusal) where
   -- its answer cannot be kept: 14
-  pub pick_ill : (room : ℕ) → can_tell o c ≡ false → pick_entry a o c room ≡ refused 14
+  pub pick_ill : (room : ℕ) → can_tell o ≡ false → pick_entry a o room ≡ refused 14
   unfolding pick_entry
   pick_ill room h = rw h
 
   -- else handing out these bytes is handing out the entry
-  pub pick_said : can_tell o c ≡ true → (bs out o' : List ℕ) (r : Written) → bs ≡ entry_bytes a (picked_given o c) → (r ≡ written_of (roomed bs (length out))) × (o' ≡ lent (roomed bs (length out)) out)
-      → (r ≡ written_of (pick_entry a o c (length out))) × (o' ≡ lent (pick_entry a o c (length out)) out)
+  pub pick_said : can_tell o ≡ true → (bs out o' : List ℕ) (r : Result ℕ Refusal) → bs ≡ entry_bytes a (picked_given o) → (answer_of r ≡ filling (roomed bs (length out))) × (o' ≡ lent (roomed bs (length out)) out)
+      → (answer_of r ≡ filling (pick_entry a o (length out))) × (o' ≡ lent (pick_entry a o (length out)) out)
   unfolding pick_entry
-  pick_said t bs out o' r e h = rw t (entry_said a (picked_given o c) bs out o' r e h)
+  pick_said t bs out o' r e h = rw t (entry_said a (picked_given o) bs out o' r e h)

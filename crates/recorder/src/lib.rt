@@ -4,23 +4,22 @@
 ghost use Rattle.std.specs.Prelude.{◌≡◌, true, ◌+◌, ◌≤◌, length};
 ghost use Rattle.lemmas.specs.Slices.{put};
 ghost use Rattle.model.specs.Answer.{lent};
-ghost use Rattle.snapshot_write.specs.Writing.{written_of};
+ghost use Rattle.answers.specs.Outcome.{answer_of, filling};
 ghost use Rattle.model_replay.specs.Recording.{pointer_form, deletion_form, addition_form, log_form};
 ghost use Rattle.edit.specs.Edit.{pointing_of, deletion_of, addition_of, log_of};
 ghost use Rattle.recorder.specs.Recorder as recorder;
 ghost use Rattle.recorder.specs.Recorder.{roomed, pointers_bytes, deletions_bytes, additions_bytes, edit_bytes, edit_entry, size_entry, range_entry, new_entry, count_entry};
 
-use answers::{Outcome, Refusal};
-use edit::{Addition, Deletion, Edit, NewLog, Pointing};
+use answers::Refusal;
+use edit::{Addition, Deletion, Edit, Pointing};
 use keys::{FileNumber, Key, Word};
 use pick_answer::Picked;
 use replay_form::Record;
 use replay_given::Given;
 use snapshot_parts::Snapshot;
-use snapshot_write::Written;
 
 // The counter calls with a number.
-#[derive(Clone, Copy)]
+#[derive(Clone, Copy, PartialEq, Eq)]
 pub enum Counter {
     Reuse,
     Mark,
@@ -41,35 +40,35 @@ impl Entry {
 }
 
 // Copies what was laid to the lent output: 13 where that is shorter.
-fn hand(out: &mut [u8], laid: &[u8]) -> Written
-    ensures { (result ≡ written_of (roomed laid.now (length out.old))) × (out.new ≡ lent (roomed laid.now (length out.old)) out.old) }
+fn hand(out: &mut [u8], laid: &[u8]) -> Result<usize, Refusal>
+    ensures { (answer_of result ≡ filling (roomed laid.now (length out.old))) × (out.new ≡ lent (roomed laid.now (length out.old)) out.old) }
 {
     let n = laid.len();
     if out.len() < n {
-        return Written::Refused(Refusal::OUTPUT);
+        return Err(Refusal::Output);
     }
     snapshot_parts::put_bytes(out, 0, laid);
-    Written::Bytes(n)
+    Ok(n)
 }
 
 // The head of a record: the maximum file size of its picks, how many calls of the whole record stand before it, and how many it has.
-pub fn head(maximum: u64, place: u64, calls: u64, out: &mut [u8]) -> Written
-    ensures { (result ≡ written_of (recorder.head maximum place calls (length out.old))) × (out.new ≡ lent (recorder.head maximum place calls (length out.old)) out.old) }
+pub fn head(maximum: u64, place: u64, calls: u64, out: &mut [u8]) -> Result<usize, Refusal>
+    ensures { (answer_of result ≡ filling (recorder.head maximum place calls (length out.old))) × (out.new ≡ lent (recorder.head maximum place calls (length out.old)) out.old) }
 {
     if Record::MOST < calls {
-        return Written::Refused(Refusal::COUNTER);
+        return Err(Refusal::Counter);
     }
     if Word::LARGEST - place < calls {
-        return Written::Refused(Refusal::COUNTER);
+        return Err(Refusal::Counter);
     }
     if out.len() < Record::FIRST {
-        return Written::Refused(Refusal::OUTPUT);
+        return Err(Refusal::Output);
     }
     snapshot_parts::put_number(out, 0, Snapshot::COUNT, Record::SETTINGS);
     snapshot_parts::put_number(out, Record::MAXIMUM, Snapshot::NUMBER, maximum);
     snapshot_parts::put_number(out, Record::PLACE, Snapshot::NUMBER, place);
     snapshot_parts::put_number(out, Record::COUNT, Record::CALLS, calls);
-    Written::Bytes(Record::FIRST)
+    Ok(Record::FIRST)
 }
 
 // ---- an edit
@@ -88,9 +87,8 @@ fn put_deletion(out: &mut [u8], at: usize, d: Deletion) -> usize
     requires { at + length (deletion_form.write (deletion_of d)) ≤ length out.old }
     ensures { (result ≡ at + length (deletion_form.write (deletion_of d))) × (out.new ≡ put out.old at (deletion_form.write (deletion_of d))) }
 {
-    let number = d.number;
     snapshot_parts::put_number(out, at, Snapshot::NUMBER, d.level as u64);
-    snapshot_parts::put_number(out, at + Snapshot::NUMBER, Snapshot::NUMBER, number.0);
+    snapshot_parts::put_number(out, at + Snapshot::NUMBER, Snapshot::NUMBER, d.number.0);
     at + Snapshot::KEYS
 }
 
@@ -99,10 +97,9 @@ fn put_addition(out: &mut [u8], at: usize, a: Addition) -> usize
     requires { at + length (addition_form.write (addition_of a)) ≤ length out.old }
     ensures { (result ≡ at + length (addition_form.write (addition_of a))) × (out.new ≡ put out.old at (addition_form.write (addition_of a))) }
 {
-    let number = a.number;
     let file = at + Snapshot::NUMBER;
     snapshot_parts::put_number(out, at, Snapshot::NUMBER, a.level as u64);
-    snapshot_parts::put_number(out, file, Snapshot::NUMBER, number.0);
+    snapshot_parts::put_number(out, file, Snapshot::NUMBER, a.number.0);
     snapshot_parts::put_number(out, file + Snapshot::NUMBER, Snapshot::NUMBER, a.size);
     let next = snapshot_parts::put_key(out, file + Snapshot::KEYS, keys::kept(a.smallest));
     snapshot_parts::put_key(out, next, keys::kept(a.largest))
@@ -190,16 +187,16 @@ fn put_additions(out: &mut [u8], at: usize, e: Edit) -> usize
 }
 
 // Lays the section of an edit's log number, of none or one. Returns the place after it. Requires: the output has these places.
-fn put_log(out: &mut [u8], at: usize, log: NewLog) -> usize
+fn put_log(out: &mut [u8], at: usize, log: Option<FileNumber>) -> usize
     requires { at + length (log_form.write (log_of log)) ≤ length out.old }
     ensures { (result ≡ at + length (log_form.write (log_of log))) × (out.new ≡ put out.old at (log_form.write (log_of log))) }
 {
     match log {
-        NewLog::Keeps => {
+        None => {
             snapshot_parts::put_number(out, at, Snapshot::COUNT, 0);
             at + Snapshot::COUNT
         }
-        NewLog::Becomes(n) => {
+        Some(n) => {
             snapshot_parts::put_number(out, at, Snapshot::COUNT, 1);
             snapshot_parts::put_number(out, at + Snapshot::COUNT, Snapshot::NUMBER, n.0);
             at + Snapshot::COUNT + Snapshot::NUMBER
@@ -216,8 +213,7 @@ fn put_edit(out: &mut [u8], at: usize, e: Edit) -> usize
     let a = put_pointings(out, at + Snapshot::BYTE, e);
     let b = put_deletions(out, a, e);
     let c = put_additions(out, b, e);
-    let log = e.log;
-    put_log(out, c, log)
+    put_log(out, c, e.log)
 }
 
 // ---- entries
@@ -227,9 +223,9 @@ fn room() -> [u8; Entry::LONGEST] {
     [0u8; Entry::LONGEST]
 }
 
-// The entry of an edit: the call, and its outcome.
-pub fn edit_entry(e: Edit, o: Outcome, out: &mut [u8]) -> Written
-    ensures { (result ≡ written_of (edit_entry e o (length out.old))) × (out.new ≡ lent (edit_entry e o (length out.old)) out.old) }
+// The entry of an edit: the call, and its result.
+pub fn edit_entry(e: Edit, o: Result<(), Refusal>, out: &mut [u8]) -> Result<usize, Refusal>
+    ensures { (answer_of result ≡ filling (edit_entry e o (length out.old))) × (out.new ≡ lent (edit_entry e o (length out.old)) out.old) }
 {
     let mut laid = room();
     let end = put_edit(&mut laid, 0, e);
@@ -237,50 +233,49 @@ pub fn edit_entry(e: Edit, o: Outcome, out: &mut [u8]) -> Written
     hand(out, &laid[0..n])
 }
 
-// The entry of a size pick: its outcome, and what was picked.
-pub fn size_entry(o: Outcome, c: Picked, out: &mut [u8]) -> Written
-    ensures { (result ≡ written_of (size_entry o c (length out.old))) × (out.new ≡ lent (size_entry o c (length out.old)) out.old) }
+// The entry of a size pick: its result, with what was picked.
+pub fn size_entry(o: Result<Picked, Refusal>, out: &mut [u8]) -> Result<usize, Refusal>
+    ensures { (answer_of result ≡ filling (size_entry o (length out.old))) × (out.new ≡ lent (size_entry o (length out.old)) out.old) }
 {
-    if !replay_given::can_tell(o, c) {
-        return Written::Refused(Refusal::FORM);
+    if !replay_given::can_tell(o) {
+        return Err(Refusal::Form);
     }
     let mut laid = room();
     snapshot_parts::put_number(&mut laid, 0, Snapshot::BYTE, Record::SIZE);
-    let n = replay_given::put_picked(&mut laid, Snapshot::BYTE, o, c);
+    let n = replay_given::put_picked(&mut laid, Snapshot::BYTE, o);
     hand(out, &laid[0..n])
 }
 
-// The entry of a manual pick: its level and range, its outcome, and what was picked.
+// The entry of a manual pick: its level and range, and its result, with what was picked.
 pub fn range_entry(
     level: usize,
     start: Key,
     stop: Key,
-    o: Outcome,
-    c: Picked,
+    o: Result<Picked, Refusal>,
     out: &mut [u8],
-) -> Written
-    ensures { (result ≡ written_of (range_entry level start stop o c (length out.old))) × (out.new ≡ lent (range_entry level start stop o c (length out.old)) out.old) }
+) -> Result<usize, Refusal>
+    ensures { (answer_of result ≡ filling (range_entry level start stop o (length out.old))) × (out.new ≡ lent (range_entry level start stop o (length out.old)) out.old) }
 {
-    if !replay_given::can_tell(o, c) {
-        return Written::Refused(Refusal::FORM);
+    if !replay_given::can_tell(o) {
+        return Err(Refusal::Form);
     }
     let mut laid = room();
     snapshot_parts::put_number(&mut laid, 0, Snapshot::BYTE, Record::RANGE);
     snapshot_parts::put_number(&mut laid, Snapshot::BYTE, Snapshot::NUMBER, level as u64);
     let low = snapshot_parts::put_key(&mut laid, Given::SHORT, keys::kept(start));
     let high = snapshot_parts::put_key(&mut laid, low, keys::kept(stop));
-    let n = replay_given::put_picked(&mut laid, high, o, c);
+    let n = replay_given::put_picked(&mut laid, high, o);
     hand(out, &laid[0..n])
 }
 
-// The entry of new: its outcome, and the number handed out.
-pub fn new_entry(o: Outcome, number: FileNumber, out: &mut [u8]) -> Written
-    ensures { (result ≡ written_of (new_entry o number.0 (length out.old))) × (out.new ≡ lent (new_entry o number.0 (length out.old)) out.old) }
+// The entry of new: its result, with the number handed out.
+pub fn new_entry(o: Result<FileNumber, Refusal>, out: &mut [u8]) -> Result<usize, Refusal>
+    ensures { (answer_of result ≡ filling (new_entry o (length out.old))) × (out.new ≡ lent (new_entry o (length out.old)) out.old) }
 {
     let mut laid = room();
     snapshot_parts::put_number(&mut laid, 0, Snapshot::BYTE, Record::COUNTER);
     snapshot_parts::put_number(&mut laid, Snapshot::BYTE, Snapshot::BYTE, Record::NEW);
-    let n = replay_given::put_handed(&mut laid, Snapshot::BYTE + Snapshot::BYTE, o, number);
+    let n = replay_given::put_handed(&mut laid, Snapshot::BYTE + Snapshot::BYTE, o);
     hand(out, &laid[0..n])
 }
 
@@ -297,9 +292,14 @@ fn tag_of(c: Counter) -> u64
     }
 }
 
-// The entry of another counter call: its number, and its outcome.
-pub fn count_entry(c: Counter, number: u64, o: Outcome, out: &mut [u8]) -> Written
-    ensures { (result ≡ written_of (count_entry c number o (length out.old))) × (out.new ≡ lent (count_entry c number o (length out.old)) out.old) }
+// The entry of another counter call: its number, and its result.
+pub fn count_entry(
+    c: Counter,
+    number: u64,
+    o: Result<(), Refusal>,
+    out: &mut [u8],
+) -> Result<usize, Refusal>
+    ensures { (answer_of result ≡ filling (count_entry c number o (length out.old))) × (out.new ≡ lent (count_entry c number o (length out.old)) out.old) }
 {
     let mut laid = room();
     let at = Snapshot::BYTE + Snapshot::BYTE;

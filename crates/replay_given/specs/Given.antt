@@ -1,5 +1,5 @@
 -- What code's answers say, as the model has them, and the bytes that a record keeps of them. Assumes nothing.
-use Rattle.std.specs.Prelude.{ℕ, ◌+◌, ◌*◌, Bool, true, not, ◌&&◌, List, map}
+use Rattle.std.specs.Prelude.{ℕ, ◌+◌, ◌*◌, Bool, true, not, ◌&&◌, List, map, Result, Ok, Err}
 use Rattle.std.specs.Float.Ieee.{is_nan}
 use Rattle.lemmas.specs.Lists.{join}
 use Rattle.model.specs.Answer.{gives, refused}
@@ -8,30 +8,31 @@ use Rattle.model.specs.Snapshot.{byte_long, count_long, number_long, file_long, 
 use Rattle.model_replay.specs.Given as model
 use Rattle.model_replay.specs.Given.{accepted, handed, picked, choice_of, why_of}
 use Rattle.model_replay.specs.Recording.{given_form, why_form}
-use Rattle.answers.specs.declared.Outcome.{Outcome}
-use Rattle.answers.specs.declared.Outcome.TheVariants.{Done, Refused}
+use Rattle.answers.specs.Outcome.{number_of}
+use Rattle.answers.specs.declared.Refusal.{Refusal}
+use Rattle.keys.specs.declared.FileNumber.{FileNumber}
 use Rattle.pick_answer.specs.declared.Cause.{Cause}
 use Rattle.pick_answer.specs.declared.Cause.TheVariants.{Size, Manual}
 use Rattle.pick_answer.specs.declared.Picked.{Picked}
 use Rattle.pick_answer.specs.Picked.{cause_of, lists_in, picked_of, well_picked}
 
 -- ---- what is said
--- an outcome, and what is said where it is done
-unfoldable pub said_by : Outcome → model.Said → model.Given
-said_by Done a = gives a
-said_by (Refused n) a = refused n
+-- the result of a call: what is said of its value, or the number of its refusal
+unfoldable pub said_by : {A : Type 0} → (A → model.Said) → Result A Refusal → model.Given
+said_by f (Ok a) = gives (f a)
+said_by f (Err r) = refused (number_of r)
 
 -- the answer of an edit, or of a counter call but new
-abbrev pub plain_given : Outcome → model.Given
-plain_given o = said_by o accepted
+abbrev pub plain_given : Result Unit Refusal → model.Given
+plain_given o = said_by (λ _. accepted) o
 
 -- the answer of new: the number handed out
-abbrev pub handed_given : Outcome → ℕ → model.Given
-handed_given o n = said_by o (handed n)
+abbrev pub handed_given : Result FileNumber Refusal → model.Given
+handed_given o = said_by (λ n. handed n.0) o
 
 -- the answer of a pick: what was picked
-abbrev pub picked_given : Outcome → Picked → model.Given
-picked_given o c = said_by o (picked (choice_of (picked_of c)))
+abbrev pub picked_given : Result Picked Refusal → model.Given
+picked_given o = said_by (λ c. picked (choice_of (picked_of c))) o
 
 -- ---- its bytes
 -- the bytes of an answer
@@ -61,6 +62,6 @@ is_number (Size x) = not (is_nan x)
 is_number Manual = true
 
 -- the answer of a pick can be kept: it is a refusal, or the picked answer is well-formed and its score a number
-unfoldable pub can_tell : Outcome → Picked → Bool
-can_tell Done c = well_picked c && is_number c.cause
-can_tell (Refused n) c = true
+unfoldable pub can_tell : Result Picked Refusal → Bool
+can_tell (Ok c) = well_picked c && is_number c.cause
+can_tell (Err r) = true

@@ -4,12 +4,13 @@
 ghost use Rattle.std.specs.Prelude.{◌≡◌, true, false, ◌+◌, ◌≤◌, length};
 ghost use Rattle.lemmas.specs.Slices.{put};
 ghost use Rattle.model.specs.Answer.{refused};
+ghost use Rattle.answers.specs.Outcome.{number_of};
 ghost use Rattle.std.specs.Float.{binary64};
 ghost use Rattle.std.specs.Float.Ieee.{is_nan, to_bits};
 ghost use Rattle.pick_answer.specs.Picked.{well_picked};
 ghost use Rattle.replay_given.specs.Given.{plain_given, handed_given, picked_given, given_bytes, why_bytes, lists_bytes, is_number, can_tell};
 
-use answers::Outcome;
+use answers::Refusal;
 use keys::{FileNumber, Key};
 use pick_answer::{Cause, Picked};
 use records::Version;
@@ -33,41 +34,46 @@ impl Given {
 }
 
 // Lays a refusal. Returns the place after it. Requires: the output has these places.
-fn put_refused(out: &mut [u8], at: usize, n: u8) -> usize
-    requires { at + length (given_bytes (refused n)) ≤ length out.old }
-    ensures { (result ≡ at + length (given_bytes (refused n))) × (out.new ≡ put out.old at (given_bytes (refused n))) }
+fn put_refused(out: &mut [u8], at: usize, r: Refusal) -> usize
+    requires { at + length (given_bytes (refused (number_of r))) ≤ length out.old }
+    ensures { (result ≡ at + length (given_bytes (refused (number_of r)))) × (out.new ≡ put out.old at (given_bytes (refused (number_of r)))) }
 {
     snapshot_parts::put_number(out, at, Snapshot::BYTE, Record::REFUSED);
-    snapshot_parts::put_number(out, at + Snapshot::BYTE, Snapshot::BYTE, n as u64);
+    snapshot_parts::put_number(
+        out,
+        at + Snapshot::BYTE,
+        Snapshot::BYTE,
+        u64::from(r.number()),
+    );
     at + Snapshot::BYTE + Snapshot::BYTE
 }
 
 // Lays the answer of an edit, or of a counter call but new. Returns the place after it. Internal. Requires: the output has these places.
-pub fn put_plain(out: &mut [u8], at: usize, o: Outcome) -> usize
+pub fn put_plain(out: &mut [u8], at: usize, o: Result<(), Refusal>) -> usize
     requires { at + length (given_bytes (plain_given o)) ≤ length out.old }
     ensures { (result ≡ at + length (given_bytes (plain_given o))) × (out.new ≡ put out.old at (given_bytes (plain_given o))) }
 {
     match o {
-        Outcome::Done => {
+        Ok(()) => {
             snapshot_parts::put_number(out, at, Snapshot::BYTE, Record::ACCEPTED);
             at + Snapshot::BYTE
         }
-        Outcome::Refused(n) => put_refused(out, at, n),
+        Err(r) => put_refused(out, at, r),
     }
 }
 
 // Lays the answer of new. Returns the place after it. Internal. Requires: the output has these places.
-pub fn put_handed(out: &mut [u8], at: usize, o: Outcome, number: FileNumber) -> usize
-    requires { at + length (given_bytes (handed_given o number.0)) ≤ length out.old }
-    ensures { (result ≡ at + length (given_bytes (handed_given o number.0))) × (out.new ≡ put out.old at (given_bytes (handed_given o number.0))) }
+pub fn put_handed(out: &mut [u8], at: usize, o: Result<FileNumber, Refusal>) -> usize
+    requires { at + length (given_bytes (handed_given o)) ≤ length out.old }
+    ensures { (result ≡ at + length (given_bytes (handed_given o))) × (out.new ≡ put out.old at (given_bytes (handed_given o))) }
 {
     match o {
-        Outcome::Done => {
+        Ok(number) => {
             snapshot_parts::put_number(out, at, Snapshot::BYTE, Record::HANDED);
             snapshot_parts::put_number(out, at + Snapshot::BYTE, Snapshot::NUMBER, number.0);
             at + Given::SHORT
         }
-        Outcome::Refused(n) => put_refused(out, at, n),
+        Err(r) => put_refused(out, at, r),
     }
 }
 
@@ -82,18 +88,12 @@ pub fn is_number(c: Cause) -> bool
 }
 
 // Whether the answer of a pick can be kept: it is a refusal, or the picked answer is well-formed and its score a number. Internal.
-pub fn can_tell(o: Outcome, c: Picked) -> bool
-    ensures { result ≡ can_tell o c }
+pub fn can_tell(o: Result<Picked, Refusal>) -> bool
+    ensures { result ≡ can_tell o }
 {
     match o {
-        Outcome::Done => {
-            if !pick_answer::is_well_formed(c) {
-                return false;
-            }
-            let cause = c.cause;
-            is_number(cause)
-        }
-        Outcome::Refused(_) => true,
+        Ok(c) => pick_answer::is_well_formed(c) && is_number(c.cause),
+        Err(_) => true,
     }
 }
 
@@ -145,19 +145,18 @@ fn put_lists(out: &mut [u8], at: usize, c: Picked) -> usize
 }
 
 // Lays the answer of a pick. Returns the place after it. Internal. Requires: it can be kept, and the output has these places.
-pub fn put_picked(out: &mut [u8], at: usize, o: Outcome, c: Picked) -> usize
-    requires { (can_tell o c ≡ true) × (at + length (given_bytes (picked_given o c)) ≤ length out.old) }
-    ensures { (result ≡ at + length (given_bytes (picked_given o c))) × (out.new ≡ put out.old at (given_bytes (picked_given o c))) }
+pub fn put_picked(out: &mut [u8], at: usize, o: Result<Picked, Refusal>) -> usize
+    requires { (can_tell o ≡ true) × (at + length (given_bytes (picked_given o)) ≤ length out.old) }
+    ensures { (result ≡ at + length (given_bytes (picked_given o))) × (out.new ≡ put out.old at (given_bytes (picked_given o))) }
 {
     match o {
-        Outcome::Done => {
+        Ok(c) => {
             snapshot_parts::put_number(out, at, Snapshot::BYTE, Record::PICKED);
             snapshot_parts::put_number(out, at + Snapshot::BYTE, Snapshot::NUMBER, c.level as u64);
-            let cause = c.cause;
-            let why = put_why(out, at + Given::SHORT, cause);
+            let why = put_why(out, at + Given::SHORT, c.cause);
             snapshot_parts::put_number(out, why, Snapshot::NUMBER, c.maximum);
             put_lists(out, why + Snapshot::NUMBER, c)
         }
-        Outcome::Refused(n) => put_refused(out, at, n),
+        Err(r) => put_refused(out, at, r),
     }
 }
