@@ -1,6 +1,6 @@
 -- Items added one after another: what a loop over them says at each turn. Assumes nothing.
 use Prim.Native.Nat.{ℕ, zero, suc, ◌+◌, ◌-◌, ◌≤◌, ◌<◌}
-use Rattle.std.specs.Prelude.{◌≡◌, Bool, true, false, cond, List, ltb, length}
+use Rattle.std.specs.Prelude.{◌≡◌, Bool, true, false, List, ltb, length}
 use Rattle.std.proofs.Math.Path.{refl}
 use Rattle.std.proofs.Common.{sym, ap, ◌∙◌, arith, lt-ltb, le-ltb, ltb-true, ltb-false}
 use Rattle.edit.specs.declared.Edit.{Edit}

@@ -4,7 +4,7 @@
 ghost use Rattle.std.specs.Prelude.{◌≡◌, length};
 ghost use Rattle.script_edit.specs.Items.{deletion_of, pointing_of, addition_of, log_of, item_of, edit_of_line};
 
-use edit::{Addition, Deletion, Edit, NewLog, Pointing};
+use edit::{Addition, Deletion, Edit, Pointing};
 use keys::FileNumber;
 use script_parts::Parts;
 
@@ -26,10 +26,9 @@ fn pointing(line: &[u8], p: Parts) -> Pointing
 {
     let l = script_parts::number(line, p, 1);
     let k = script_parts::key(line, p, 2);
-    let key = k.key;
     Pointing {
         level: l.value as usize,
-        key: key,
+        key: k.key,
     }
 }
 
@@ -42,23 +41,21 @@ fn addition(line: &[u8], p: Parts) -> Addition
     let size = script_parts::number(line, p, 3);
     let low = script_parts::key(line, p, 4);
     let high = script_parts::key(line, p, 5);
-    let smallest = low.key;
-    let largest = high.key;
     Addition {
         level: l.value as usize,
         number: FileNumber(n.value),
         size: size.value,
-        smallest: smallest,
-        largest: largest,
+        smallest: low.key,
+        largest: high.key,
     }
 }
 
 // The log number of an item.
-fn log(line: &[u8], p: Parts) -> NewLog
+fn log(line: &[u8], p: Parts) -> Option<FileNumber>
     ensures { result ≡ log_of line.now p }
 {
     let n = script_parts::number(line, p, 1);
-    NewLog::Becomes(FileNumber(n.value))
+    Some(FileNumber(n.value))
 }
 
 // The edit with one item more. The item's first byte says which kind it is.
@@ -66,8 +63,8 @@ fn with_item(e: Edit, line: &[u8], from: usize, to: usize) -> Edit
     ensures { result ≡ item_of line.now e from to }
 {
     let p = Parts {
-        from: from,
-        to: to,
+        from,
+        to,
         mark: b',',
     };
     let mark = script_words::byte_at(line, from);
@@ -83,7 +80,7 @@ fn with_item(e: Edit, line: &[u8], from: usize, to: usize) -> Edit
     e.with_log(log(line, p))
 }
 
-// The edit that the words after the first make.
+// The edit that the words after the first make. Each turn finds where the next word ends: a `for` would be no plainer.
 pub fn edit_of(line: &[u8]) -> Edit
     ensures { result ≡ edit_of_line line.now }
 {

@@ -1,5 +1,5 @@
 -- What a fault names. Assumes nothing.
-use Rattle.std.specs.Prelude.{ℕ, ◌≡◌, refl, ◌⊎◌, false, List}
+use Rattle.std.specs.Prelude.{ℕ, ◌≡◌, refl, false, List}
 use Rattle.std.proofs.Common.{◌∙◌, inl, inr}
 use Rattle.script_table.specs.declared.Fault.{Fault}
 use Rattle.script_table.specs.Faults.{of_numbers, fits_snapshots, fits_other, fits, Named}

@@ -94,14 +94,6 @@ pub struct Reading {
     pub fault: Fault,
 }
 
-// An entry of a table: whether there is one, and the run of the table after its name.
-#[derive(Clone, Copy)]
-struct Entry {
-    found: bool,
-    from: usize,
-    to: usize,
-}
-
 // The longest word that an answer shows whole.
 const SHOWN: usize = 40;
 
@@ -110,86 +102,50 @@ const NAME: usize = 4088;
 
 // ---- entries of a table
 
-// The place n bytes after another, or that one if the sum does not fit.
-fn ahead(at: usize, n: usize) -> usize {
-    if at < 1000000 {
-        if n < 1000000 {
-            return at + n;
+// The table's entry whose name is this word, without the name and the blank after it.
+fn entry_of<'a>(table: &'a [u8], word: &[u8]) -> Option<&'a [u8]> {
+    for entry in table.split(|b| *b == b'\n') {
+        if let Some(n) = entry.iter().position(|b| *b == b' ') {
+            if &entry[..n] == word {
+                return Some(&entry[n + 1..]);
+            }
         }
     }
-    at
-}
-
-// The entry of a table whose name is this word.
-fn entry_of(table: &[u8], word: &[u8]) -> Entry {
-    let n = table.len();
-    let mut at: usize = 0;
-    while at < n {
-        let end = script_words::place_of(table, at, n, b'\n');
-        let name = script_words::place_of(table, at, end, b' ');
-        if script_words::is_word(table, at, name, word) {
-            return Entry {
-                found: true,
-                from: name,
-                to: end,
-            };
-        }
-        if n <= end {
-            return no_entry();
-        }
-        at = end + 1;
-    }
-    no_entry()
-}
-
-// No entry.
-fn no_entry() -> Entry {
-    Entry {
-        found: false,
-        from: 0,
-        to: 0,
-    }
+    None
 }
 
 // The entry of a table whose name is a run of a line.
-fn entry_at(table: &[u8], line: &[u8], from: usize, to: usize) -> Entry {
-    if line.len() < to {
-        return no_entry();
-    }
-    if to < from {
-        return no_entry();
-    }
-    entry_of(table, &line[from..to])
+fn entry_at<'a>(table: &'a [u8], line: &[u8], from: usize, to: usize) -> Option<&'a [u8]> {
+    entry_of(table, line.get(from..to)?)
 }
 
-// The kind of word that the table asks for at a place. It is not a letter if no further word is wanted.
-fn wanted(table: &[u8], k: usize, end: u8) -> u8 {
-    let b = script_words::byte_at(table, k);
-    if b < b'A' {
-        return end;
-    }
-    if b'Z' < b {
-        return end;
-    }
-    b
+// The kinds of words that an entry asks for, and the text after them.
+fn kinds_of(entry: &[u8]) -> &[u8] {
+    entry.get(3..).unwrap_or(&[])
 }
 
-// The place of the next kind. It is the same place if any number of such words may follow.
-fn next_kind(table: &[u8], k: usize) -> usize {
-    let b = script_words::byte_at(table, ahead(k, 1));
-    if b == b'*' {
-        return k;
+// The first of the kinds. It is not a letter if no further word is wanted.
+fn wanted(kinds: &[u8], end: u8) -> u8 {
+    match kinds.first() {
+        Some(b) if b.is_ascii_uppercase() => *b,
+        _ => end,
     }
-    if b == b'?' {
-        return ahead(k, 2);
-    }
-    ahead(k, 1)
 }
 
-// Whether the words may end before the kind at a place.
-fn may_end(table: &[u8], k: usize) -> bool {
-    let b = script_words::byte_at(table, ahead(k, 1));
-    (wanted(table, k, 0) == 0) | (b == b'*') | (b == b'?')
+// The kinds after a word of the first one. They are the same if any number of such words may follow.
+fn next_kinds(kinds: &[u8]) -> &[u8] {
+    match kinds {
+        [_, b'*', ..] => kinds,
+        [_, b'?', rest @ ..] => rest,
+        [_, rest @ ..] => rest,
+        [] => kinds,
+    }
+}
+
+// Whether the words may end before the first of the kinds.
+fn may_end(kinds: &[u8]) -> bool {
+    let mark = script_words::byte_at(kinds, 1);
+    wanted(kinds, 0) == 0 || mark == b'*' || mark == b'?'
 }
 
 // ---- kinds of words
@@ -338,49 +294,48 @@ fn no_fault() -> Fault
     }
 }
 
-// The first wrong part after the part that ends at this place.
-fn fault_of(table: &[u8], shape: usize, line: &[u8], p: Parts, first: usize, end: u8) -> Fault
+// The first wrong part after the part that ends at this place. Each turn finds where the next part ends: a `for` would be no plainer.
+fn fault_of(shape: &[u8], line: &[u8], p: Parts, first: usize, end: u8) -> Fault
     ensures { Named line.now result }
 {
     let n = p.to;
     let mut at = first;
-    let mut k = shape;
+    let mut kinds = shape;
     let mut word: usize = 2;
     while at < n {
         let from = at + 1;
         let to = script_parts::end_of(line, p, from);
-        let kind = wanted(table, k, end);
-        if is_of_kind(line, from, to, kind) {
-            k = next_kind(table, k);
-            word = ahead(word, 1);
-            at = to;
-        } else {
+        let kind = wanted(kinds, end);
+        if !is_of_kind(line, from, to, kind) {
             return Fault {
-                kind: kind,
-                word: word,
+                kind,
+                word,
                 part: 0,
-                from: from,
-                to: to,
+                from,
+                to,
             };
         }
+        kinds = next_kinds(kinds);
+        word = word.saturating_add(1);
+        at = to;
     }
-    missing(table, k, line, n, word, end)
+    missing(kinds, line, n, word, end)
 }
 
 // A word is missing at the end of the line.
-fn missing(table: &[u8], k: usize, line: &[u8], n: usize, word: usize, end: u8) -> Fault
+fn missing(kinds: &[u8], line: &[u8], n: usize, word: usize, end: u8) -> Fault
     ensures { Named line.now result }
 {
-    let kind = wanted(table, k, end);
-    if may_end(table, k) {
+    let kind = wanted(kinds, end);
+    if may_end(kinds) {
         return no_fault();
     }
     if is_of_kind(line, n, n, kind) {
         return no_fault();
     }
     Fault {
-        kind: kind,
-        word: word,
+        kind,
+        word,
         part: 0,
         from: n,
         to: n,
@@ -392,11 +347,9 @@ fn of_item(f: Fault, item: usize) -> Fault
     ensures { (result.kind ≡ f.kind) × (result.from ≡ f.from) × (result.to ≡ f.to) }
 {
     Fault {
-        kind: f.kind,
         word: item,
         part: f.word,
-        from: f.from,
-        to: f.to,
+        ..f
     }
 }
 
@@ -406,25 +359,24 @@ fn item_fault(line: &[u8], from: usize, to: usize, item: usize) -> Fault
 {
     let items = ITEMS;
     let p = Parts {
-        from: from,
-        to: to,
+        from,
+        to,
         mark: b',',
     };
     let end = script_parts::end_of(line, p, from);
-    let e = entry_at(&items, line, from, end);
-    if !e.found {
+    let Some(entry) = entry_at(&items, line, from, end) else {
         return Fault {
             kind: b'Y',
             word: item,
             part: 1,
-            from: from,
+            from,
             to: end,
         };
-    }
-    of_item(fault_of(&items, ahead(e.from, 4), line, p, end, b'F'), item)
+    };
+    of_item(fault_of(kinds_of(entry), line, p, end, b'F'), item)
 }
 
-// What is wrong with the first bad item. The word before the items ends at this place.
+// What is wrong with the first bad item. The word before the items ends at this place. Each turn finds where the next item ends: a `for` would be no plainer.
 fn items_fault(line: &[u8], first: usize) -> Fault
     ensures { Named line.now result }
 {
@@ -438,22 +390,22 @@ fn items_fault(line: &[u8], first: usize) -> Fault
         if f.kind != 0 {
             return f;
         }
-        item = ahead(item, 1);
+        item = item.saturating_add(1);
         at = to;
     }
     no_fault()
 }
 
 // What is wrong with the name after `help`, if anything.
-fn name_fault(table: &[u8], line: &[u8], first: usize) -> Fault
+fn name_fault(line: &[u8], first: usize) -> Fault
     ensures { Named line.now result }
 {
+    let table = COMMANDS;
     let n = line.len();
     if n <= first {
         return no_fault();
     }
-    let e = entry_at(table, line, first + 1, n);
-    if e.found {
+    if entry_at(&table, line, first + 1, n).is_some() {
         return no_fault();
     }
     Fault {
@@ -466,34 +418,28 @@ fn name_fault(table: &[u8], line: &[u8], first: usize) -> Fault
 }
 
 // What is wrong with words that the kinds of the table do not describe: the items of an edit, the name after `help`.
-fn deeper(table: &[u8], line: &[u8], first: usize, group: u8, which: u8) -> Fault
+fn deeper(line: &[u8], first: usize, group: u8, which: u8) -> Fault
     ensures { Named line.now result }
 {
-    if (group == b'c') & (which == b'e') {
+    if group == b'c' && which == b'e' {
         return items_fault(line, first);
     }
-    if (group == b'p') & (which == b'h') {
-        return name_fault(table, line, first);
+    if group == b'p' && which == b'h' {
+        return name_fault(line, first);
     }
     no_fault()
 }
 
-// What is wrong with the words of a command. Its name ends at this place of the table.
-fn words_fault(table: &[u8], name: usize, line: &[u8], first: usize, group: u8, which: u8) -> Fault
+// What is wrong with the words of a command that asks for these kinds.
+fn words_fault(kinds: &[u8], line: &[u8], first: usize, group: u8, which: u8) -> Fault
     ensures { Named line.now result }
 {
-    let f = fault_of(
-        table,
-        ahead(name, 4),
-        line,
-        script_parts::words_of(line),
-        first,
-        b'E',
-    );
+    let p = script_parts::words_of(line);
+    let f = fault_of(kinds, line, p, first, b'E');
     if f.kind != 0 {
         return f;
     }
-    deeper(table, line, first, group, which)
+    deeper(line, first, group, which)
 }
 
 // Which command a line is, and its first wrong word.
@@ -502,8 +448,7 @@ pub fn read(line: &[u8]) -> Reading
 {
     let table = COMMANDS;
     let first = script_words::place_of(line, 0, line.len(), b' ');
-    let e = entry_at(&table, line, 0, first);
-    if !e.found {
+    let Some(entry) = entry_at(&table, line, 0, first) else {
         return Reading {
             group: 0,
             which: 0,
@@ -515,53 +460,36 @@ pub fn read(line: &[u8]) -> Reading
                 to: first,
             },
         };
-    }
-    let group = script_words::byte_at(&table, ahead(e.from, 1));
-    let which = script_words::byte_at(&table, ahead(e.from, 2));
-    let f = words_fault(&table, e.from, line, first, group, which);
+    };
+    let group = script_words::byte_at(entry, 0);
+    let which = script_words::byte_at(entry, 1);
     Reading {
-        group: group,
-        which: which,
-        fault: f,
+        group,
+        which,
+        fault: words_fault(kinds_of(entry), line, first, group, which),
     }
 }
 
 // ---- answers
 
-// A run of bytes.
-fn put_run(out: &mut [u8], start: usize, bytes: &[u8], from: usize, to: usize) -> usize {
-    let mut at = start;
-    let mut i = from;
-    while i < to {
-        at = script_lines::put_byte(out, at, script_words::byte_at(bytes, i));
-        i += 1;
-    }
-    at
-}
-
 // The byte if it can be printed, else `?`.
 fn printable(b: u8) -> u8 {
-    if b < b' ' {
-        return b'?';
+    if b == b' ' || b.is_ascii_graphic() {
+        b
+    } else {
+        b'?'
     }
-    if b'~' < b {
-        return b'?';
-    }
-    b
 }
 
 // A run of a line between quotes. A long one is cut, with two dots for the rest.
 fn put_shown(out: &mut [u8], start: usize, line: &[u8], from: usize, to: usize) -> usize {
     let mut at = script_lines::put_byte(out, start, b'\'');
-    let mut shown: usize = 0;
-    let mut i = from;
-    while i < to {
-        if shown == SHOWN {
-            return script_lines::put(out, at, b"..'");
-        }
+    let end = to.min(from.saturating_add(SHOWN));
+    for i in from..end {
         at = script_lines::put_byte(out, at, printable(script_words::byte_at(line, i)));
-        shown += 1;
-        i += 1;
+    }
+    if end < to {
+        at = script_lines::put(out, at, b"..");
     }
     script_lines::put_byte(out, at, b'\'')
 }
@@ -586,9 +514,14 @@ fn put_place(out: &mut [u8], at: usize, f: Fault) -> usize {
 // What a word of this kind must be.
 fn put_kind(out: &mut [u8], start: usize, kind: u8) -> usize {
     let table = KINDS;
-    let e = entry_of(&table, &[kind]);
     let at = script_lines::put_byte(out, start, b':');
-    put_run(out, at, &table, e.from, e.to)
+    match entry_of(&table, &[kind]) {
+        Some(text) => {
+            let to = script_lines::put_byte(out, at, b' ');
+            script_lines::put(out, to, text)
+        }
+        None => at,
+    }
 }
 
 // The line that says what is wrong: `bad`, where, what stands there, and what is wanted.
@@ -613,29 +546,31 @@ pub fn put_too_long(out: &mut [u8]) -> usize
 
 // The names of a table's entries, a blank between two.
 fn put_names(out: &mut [u8], table: &[u8]) -> usize {
-    let n = table.len();
-    let mut to: usize = 0;
     let mut at: usize = 0;
-    while at < n {
-        let end = script_words::place_of(table, at, n, b'\n');
-        let name = script_words::place_of(table, at, end, b' ');
-        to = script_lines::put_gap(out, to);
-        to = put_run(out, to, table, at, name);
-        if n <= end {
-            return to;
+    for entry in table.split(|b| *b == b'\n') {
+        if let Some(n) = entry.iter().position(|b| *b == b' ') {
+            at = script_lines::put_gap(out, at);
+            at = script_lines::put(out, at, &entry[..n]);
         }
-        at = end + 1;
     }
-    to
+    at
 }
 
 // How a command is written and what it answers: its name, then the help text of its entry.
-fn put_usage(out: &mut [u8], table: &[u8], line: &[u8], from: usize) -> usize {
-    let n = line.len();
-    let e = entry_at(table, line, from, n);
-    let text = script_words::place_of(table, ahead(e.from, 4), e.to, b' ');
-    let at = put_run(out, 0, line, from, n);
-    put_run(out, at, table, text, e.to)
+fn put_usage(out: &mut [u8], table: &[u8], name: &[u8]) -> usize {
+    let at = script_lines::put(out, 0, name);
+    match entry_of(table, name) {
+        Some(entry) => put_text(out, at, kinds_of(entry)),
+        None => at,
+    }
+}
+
+// The text after the kinds.
+fn put_text(out: &mut [u8], at: usize, kinds: &[u8]) -> usize {
+    match kinds.iter().position(|b| *b == b' ') {
+        Some(n) => script_lines::put(out, at, &kinds[n..]),
+        None => at,
+    }
 }
 
 // The answer of `help`: the commands' names, or the help text of the one that is named.
@@ -646,7 +581,7 @@ pub fn put_help(out: &mut [u8], line: &[u8]) -> usize
     let n = line.len();
     let first = script_words::place_of(line, 0, n, b' ');
     if first < n {
-        let at = put_usage(out, &table, line, first + 1);
+        let at = put_usage(out, &table, &line[first + 1..]);
         return script_lines::within(out, at);
     }
     let at = put_names(out, &table);

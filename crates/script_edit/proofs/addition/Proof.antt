@@ -1,5 +1,4 @@
 -- `script_edit::addition` meets its contract. Assumes nothing.
-use mathlib.Core.Path.{◌≡◌}
 use borrow.Author.Rules.{rules}
 use Rattle.script_edit.proofs.addition.Statement.{statement}
 use Rattle.script_edit.proofs.addition.Tie as tie

@@ -1,5 +1,4 @@
 -- `script_edit::deletion` meets its contract. Assumes nothing.
-use mathlib.Core.Path.{◌≡◌}
 use borrow.Author.Rules.{rules}
 use Rattle.script_edit.proofs.deletion.Statement.{statement}
 use Rattle.script_edit.proofs.deletion.Tie as tie

@@ -1,7 +1,6 @@
 -- `script_edit::edit_of` meets its contract. The loop's invariant: the edit so far with the words after the place is the edit of the line. Assumes nothing.
 use Prim.Native.Nat.{◌-◌}
 use mathlib.Core.Path.{◌≡◌, sym, ap, ◌∙◌}
-use native.Mathlib.Omega.{arith}
 use lib.ListN.{length}
 use Rattle.edit.specs.declared.Edit.{Edit}
 use Rattle.script_edit.specs.Items.{items_after, edit_of_line}

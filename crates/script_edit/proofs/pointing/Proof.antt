@@ -1,5 +1,4 @@
 -- `script_edit::pointing` meets its contract. Assumes nothing.
-use mathlib.Core.Path.{◌≡◌}
 use borrow.Author.Rules.{rules}
 use Rattle.script_edit.proofs.pointing.Statement.{statement}
 use Rattle.script_edit.proofs.pointing.Tie as tie

@@ -1,5 +1,5 @@
 -- `script_edit::with_item` meets its contract. Assumes nothing.
-use mathlib.Core.Path.{◌≡◌, sym, ap, ◌∙◌}
+use mathlib.Core.Path.{sym, ap, ◌∙◌}
 use borrow.Author.Tests.{eq-eqb, ne_eqb}
 use Rattle.edit.specs.Edit.{with_addition, with_deletion, with_pointing, with_log}
 use Rattle.script_edit.specs.Items.{item_of}

@@ -1,5 +1,5 @@
 -- `script_table::is_counter` meets its contract. Assumes nothing.
-use mathlib.Core.Path.{◌≡◌, sym, ◌∙◌}
+use mathlib.Core.Path.{sym, ◌∙◌}
 use Rattle.script_table.specs.Faults.{counter_name}
 use borrow.Author.Rules.{rules}
 use Rattle.script_table.proofs.is_counter.Statement.{statement}

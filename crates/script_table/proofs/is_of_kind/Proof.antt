@@ -1,5 +1,5 @@
 -- `script_table::is_of_kind` meets its contract. Assumes nothing.
-use mathlib.Core.Path.{◌≡◌, sym, ap, ◌∙◌}
+use mathlib.Core.Path.{sym, ap, ◌∙◌}
 use borrow.Author.Tests.{eq-eqb, ne_eqb}
 use Rattle.script_words.specs.declared.KeyWord.{KeyWord}
 use Rattle.script_words.specs.declared.UserWord.{UserWord}

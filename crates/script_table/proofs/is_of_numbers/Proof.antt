@@ -1,8 +1,6 @@
 -- `script_table::is_of_numbers` meets its contract. Assumes nothing.
-use mathlib.Core.Path.{◌≡◌}
 use borrow.Author.Tests.{eq-eqb, ne_eqb}
 use Rattle.script_table.specs.Faults.{of_numbers}
-use borrow.Author.Rules.{rules}
 use Rattle.script_table.proofs.is_of_numbers.Statement.{statement}
 use Rattle.script_table.proofs.is_of_numbers.Tie as tie
 

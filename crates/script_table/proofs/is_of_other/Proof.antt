@@ -1,5 +1,4 @@
 -- `script_table::is_of_other` meets its contract. Assumes nothing.
-use mathlib.Core.Path.{◌≡◌}
 use borrow.Author.Tests.{eq-eqb, ne_eqb}
 use Rattle.script_table.specs.Faults.{fits_other}
 use borrow.Author.Rules.{rules}

@@ -1,5 +1,4 @@
 -- `script_table::is_of_snapshots` meets its contract. Assumes nothing.
-use mathlib.Core.Path.{◌≡◌}
 use borrow.Author.Tests.{eq-eqb, ne_eqb}
 use Rattle.script_words.specs.WordLaws.{word_length}
 use Rattle.script_table.specs.Faults.{fits_snapshots}

@@ -1,0 +1,6 @@
+-- `fault_of` ends: the place moves on. Assumes nothing.
+use Rattle.std.proofs.Common.{◌-◌}
+use Rattle.script_table.proofs.fault_of.Given as goal
+
+abbrev pub decreases-loop-at : goal.decreases-loop-at
+decreases-loop-at l = l.n - l.at
