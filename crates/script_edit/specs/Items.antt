@@ -1,12 +1,11 @@
 -- The edit that the items of a line are: what each reads as, added one after another. Assumes nothing.
-use Rattle.std.specs.Prelude.{ℕ, zero, suc, ◌+◌, cond, List, ltb, eqb, length, get_or}
+use Rattle.std.specs.Prelude.{ℕ, zero, suc, ◌+◌, cond, List, ltb, eqb, length, get_or, Option, Some}
+use Rattle.keys.specs.declared.FileNumber.{FileNumber}
 use Rattle.keys.specs.declared.Key.{Key}
 use Rattle.edit.specs.declared.Edit.{Edit}
 use Rattle.edit.specs.declared.Deletion.{Deletion}
 use Rattle.edit.specs.declared.Addition.{Addition}
 use Rattle.edit.specs.declared.Pointing.{Pointing}
-use Rattle.edit.specs.declared.NewLog.{NewLog}
-use Rattle.edit.specs.declared.NewLog.TheVariants.{Becomes}
 use Rattle.edit.specs.Edit.{empty_record, with_deletion, with_addition, with_pointing, with_log}
 use Rattle.script_words.specs.Words.{word_of, number_word, internal_key}
 use Rattle.script_parts.specs.declared.Parts.{Parts}
@@ -40,8 +39,8 @@ addition_of line p =
     }
 
 -- l,N
-abbrev pub log_of : List ℕ → Parts → NewLog
-log_of line p = Becomes (record { 0 = number_at line p 1 })
+abbrev pub log_of : List ℕ → Parts → Option FileNumber
+log_of line p = Some (record { 0 = number_at line p 1 })
 
 -- the parts of an item: a comma between two
 abbrev pub item_parts : ℕ → ℕ → Parts

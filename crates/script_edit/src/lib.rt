@@ -4,7 +4,7 @@
 ghost use Rattle.std.specs.Prelude.{◌≡◌, length};
 ghost use Rattle.script_edit.specs.Items.{deletion_of, pointing_of, addition_of, log_of, item_of, edit_of_line};
 
-use edit::{Addition, Deletion, Edit, NewLog, Pointing};
+use edit::{Addition, Deletion, Edit, Pointing};
 use keys::FileNumber;
 use script_parts::Parts;
 
@@ -54,11 +54,11 @@ fn addition(line: &[u8], p: Parts) -> Addition
 }
 
 // The log number of an item.
-fn log(line: &[u8], p: Parts) -> NewLog
+fn log(line: &[u8], p: Parts) -> Option<FileNumber>
     ensures { result ≡ log_of line.now p }
 {
     let n = script_parts::number(line, p, 1);
-    NewLog::Becomes(FileNumber(n.value))
+    Some(FileNumber(n.value))
 }
 
 // The edit with one item more. The item's first byte says which kind it is.

@@ -3,18 +3,19 @@
 
 ghost use Rattle.std.specs.Prelude.{◌≤◌, length};
 
-use answers::Outcome;
-use key_calls::{Compared, Parsed};
+use answers::Refusal;
+use key_calls::Parsed;
 use script_parts::Parts;
 use shell_reply::Said;
+use std::cmp::Ordering;
 
 // How two keys stand, or the refusal.
-fn said_of(c: Compared) -> Said {
+fn said_of(c: Result<Ordering, Refusal>) -> Said {
     match c {
-        Compared::Before => Said::Mark(b'<'),
-        Compared::Same => Said::Mark(b'='),
-        Compared::After => Said::Mark(b'>'),
-        Compared::Refused(n) => Said::Denied(n),
+        Ok(Ordering::Less) => Said::Mark(b'<'),
+        Ok(Ordering::Equal) => Said::Mark(b'='),
+        Ok(Ordering::Greater) => Said::Mark(b'>'),
+        Err(r) => Said::Denied(r),
     }
 }
 
@@ -28,19 +29,17 @@ fn put_compared(out: &mut [u8], line: &[u8], w: Parts) -> usize {
 
 // The parts of a key.
 fn put_parts(out: &mut [u8], p: Parsed) -> usize {
-    let s = p.sequence;
-    let at = shell_reply::put_form(out, 0, b"type=% seq=% user=", [p.kind as u64, s.0, 0, 0, 0]);
+    let numbers = [u64::from(p.kind), p.sequence.0, 0, 0, 0];
+    let at = shell_reply::put_form(out, 0, b"type=% seq=% user=", numbers);
     script_lines::put_user_key(out, at, p.user)
 }
 
 // The parts of a key, or the refusal.
 fn put_parsed(out: &mut [u8], line: &[u8], w: Parts) -> usize {
     let k = script_parts::key(line, w, 1);
-    let p = key_calls::parse_internal_key(k.key);
-    let o = p.outcome;
-    match o {
-        Outcome::Refused(n) => script_lines::put_refused(out, 0, n),
-        Outcome::Done => put_parts(out, p),
+    match key_calls::parse_internal_key(k.key) {
+        Ok(p) => put_parts(out, p),
+        Err(r) => script_lines::put_refused(out, 0, r),
     }
 }
 

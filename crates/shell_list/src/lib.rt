@@ -42,13 +42,11 @@ fn put_file(out: &mut [u8], at: usize, list: &[u8], from: usize) -> Told
 
 // The mark of an entry of files: `<` only the left has it, `>` only the right, `~` both have the number.
 fn mark_of(kind: u8) -> u8 {
-    if kind == Kind::LEFT {
-        return b'<';
+    match kind {
+        Kind::LEFT => b'<',
+        Kind::RIGHT => b'>',
+        _ => b'~',
     }
-    if kind == Kind::RIGHT {
-        return b'>';
-    }
-    b'~'
 }
 
 // What follows the level in an entry of files: the number alone if only the left has it, else the file. Requires: the place is within the list.
@@ -92,19 +90,13 @@ fn put_of_pointers(out: &mut [u8], at: usize, list: &[u8], from: usize) -> Told
 
 // The name of a counter, by its place in a snapshot.
 fn put_name(out: &mut [u8], at: usize, place: u64) -> usize {
-    if place == 0 {
-        return script_lines::put(out, at, b"next");
+    match place {
+        0 => script_lines::put(out, at, b"next"),
+        1 => script_lines::put(out, at, b"manifest"),
+        2 => script_lines::put(out, at, b"seq"),
+        3 => script_lines::put(out, at, b"log"),
+        _ => script_lines::put(out, at, b"prev"),
     }
-    if place == 1 {
-        return script_lines::put(out, at, b"manifest");
-    }
-    if place == 2 {
-        return script_lines::put(out, at, b"seq");
-    }
-    if place == 3 {
-        return script_lines::put(out, at, b"log");
-    }
-    script_lines::put(out, at, b"prev")
 }
 
 // The entry of counters at a place: `c`, its name, the right's number. Requires: the place is within the list.
@@ -127,13 +119,11 @@ fn put_entry(out: &mut [u8], at: usize, list: &[u8], from: usize, section: u8) -
     requires { from ≤ length list.now }
     ensures { result.from ≤ length list.now }
 {
-    if section == b'f' {
-        return put_of_files(out, at, list, from);
+    match section {
+        b'f' => put_of_files(out, at, list, from),
+        b'p' => put_of_pointers(out, at, list, from),
+        _ => put_of_counters(out, at, list, from),
     }
-    if section == b'p' {
-        return put_of_pointers(out, at, list, from);
-    }
-    put_of_counters(out, at, list, from)
 }
 
 // The entries of the section that begins where the list is told up to: their count, then each. Requires: the place is within the list.
@@ -141,18 +131,16 @@ fn put_section(out: &mut [u8], told: Told, list: &[u8], section: u8) -> Told
     requires { told.from ≤ length list.now }
     ensures { result.from ≤ length list.now }
 {
-    let start = told.from;
-    let mut n = snapshot_parse::get_number(list, start, Snapshot::COUNT);
-    let mut at = told.at;
-    let mut from = snapshot_parse::after(list, start, Snapshot::COUNT);
-    while 0 < n {
-        let gap = script_lines::put_gap(out, at);
-        let next = put_entry(out, gap, list, from, section);
-        at = next.at;
-        from = next.from;
-        n -= 1;
+    let n = snapshot_parse::get_number(list, told.from, Snapshot::COUNT);
+    let mut told = Told {
+        from: snapshot_parse::after(list, told.from, Snapshot::COUNT),
+        ..told
+    };
+    for _ in 0..n {
+        let at = script_lines::put_gap(out, told.at);
+        told = put_entry(out, at, list, told.from, section);
     }
-    Told { at: at, from: from }
+    told
 }
 
 // The entries of a list in order, a blank between two; `same` for none. The longest answer is that of a version of files that only the left has, a version of

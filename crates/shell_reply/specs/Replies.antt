@@ -1,8 +1,8 @@
 -- The texts of answers: forms with numbers in them, lists of numbers, short answers. Assumes nothing.
-use Rattle.std.specs.Prelude.{ℕ, zero, suc, ◌+◌, ◌-◌, Bool, cond, ◌&&◌, List, [], ◌∷◌, ◌++◌, map, eqb, leb, length, get_or, take, drop}
+use Rattle.std.specs.Prelude.{ℕ, ◌+◌, ◌-◌, cond, ◌&&◌, List, [], ◌∷◌, ◌++◌, map, eqb, leb, length, get_or, take, drop, Result, Ok, Err}
 use Rattle.model.specs.File.{max_files}
-use Rattle.answers.specs.declared.Outcome.{Outcome}
-use Rattle.answers.specs.declared.Outcome.TheVariants.{Done, Refused}
+use Rattle.answers.specs.Outcome as answers
+use Rattle.answers.specs.declared.Refusal.{Refusal}
 use Rattle.records.specs.declared.FileRecord.{FileRecord}
 use Rattle.script_lines.specs.Lines.{decimal, bits, hex_text, refused_text}
 use Rattle.shell_reply.specs.declared.Said.{Said}
@@ -44,9 +44,9 @@ unfoldable pub files_text : List FileRecord → ℕ → ℕ → List ℕ
 files_text files from to = cond (leb from to && leb to max_files) (numbers_text (take (to - from) (drop from (map number_of files)))) (45 ∷ [])
 
 -- `ok`, or the refusal
-abbrev pub said_by : Outcome → Said
-said_by Done = Agreed
-said_by (Refused n) = Denied n
+abbrev pub said_by : Result Unit Refusal → Said
+said_by (Ok u) = Agreed
+said_by (Err r) = Denied r
 
 -- the next file number
 unfoldable pub next_text : ℕ → List ℕ
@@ -63,4 +63,4 @@ said_text Nothing = 110 ∷ 111 ∷ 110 ∷ 101 ∷ []
 said_text (Mark b) = b ∷ []
 said_text (Number n) = decimal n
 said_text (Next n) = next_text n
-said_text (Denied n) = refused_text n
+said_text (Denied r) = refused_text (answers.number_of r)

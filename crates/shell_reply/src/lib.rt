@@ -1,11 +1,11 @@
 // Answers of the shell laid in lent bytes: short ones by value, forms with numbers in them, lists of numbers.
 #![tactic(auto)]
 
-ghost use Rattle.std.specs.Prelude.{◌≡◌, map, ◌-◌, get_or, take, drop};
+ghost use Rattle.std.specs.Prelude.{◌≡◌, map, get_or};
 ghost use Rattle.script_lines.specs.Lines.{Laid};
-ghost use Rattle.shell_reply.specs.Replies.{mark_text, next_place, form_text, number_of, numbers_text, more_text, more_texts, files_text, next_text, front_text, said_text, said_by};
+ghost use Rattle.shell_reply.specs.Replies.{mark_text, next_place, form_text, number_of, numbers_text, more_text, files_text, next_text, front_text, said_text, said_by};
 
-use answers::Outcome;
+use answers::Refusal;
 use records::{FileRecord, Version};
 
 // A short answer: `ok`, `none`, a mark, a number, the next file number, or a refusal.
@@ -16,7 +16,7 @@ pub enum Said {
     Mark(u8),
     Number(u64),
     Next(u64),
-    Denied(u8),
+    Denied(Refusal),
 }
 
 // One byte of a form: `%` stands for a number in decimal, `#` for its sixteen hex digits, any other byte for itself.
@@ -52,10 +52,7 @@ fn next_place(mark: u8, k: usize) -> usize
 fn nth(numbers: [u64; 5], k: usize) -> u64
     ensures { result ≡ get_or numbers k 0 }
 {
-    if k < 5 {
-        return numbers[k];
-    }
-    0
+    numbers.get(k).copied().unwrap_or(0)
 }
 
 // A form, with its marks replaced by numbers in turn.
@@ -63,25 +60,21 @@ pub fn put_form(out: &mut [u8], start: usize, form: &[u8], numbers: [u64; 5]) ->
     ensures { Laid out.old start (form_text numbers form.now 0) out.new result }
 {
     let mut at = start;
-    let mut k: usize = 0;
-    let mut i: usize = 0;
-    while i < form.len() {
-        let mark = form[i];
-        let n = nth(numbers, k);
-        at = put_mark(out, at, mark, n);
-        k = next_place(mark, k);
-        i += 1;
+    let mut k = 0;
+    for mark in form {
+        at = put_mark(out, at, *mark, nth(numbers, k));
+        k = next_place(*mark, k);
     }
     at
 }
 
 // `ok`, or the refusal.
-pub fn said_of(o: Outcome) -> Said
+pub fn said_of(o: Result<(), Refusal>) -> Said
     ensures { result ≡ said_by o }
 {
     match o {
-        Outcome::Done => Said::Agreed,
-        Outcome::Refused(n) => Said::Denied(n),
+        Ok(()) => Said::Agreed,
+        Err(r) => Said::Denied(r),
     }
 }
 
@@ -94,16 +87,16 @@ fn put_next(out: &mut [u8], n: u64) -> usize
 }
 
 // A short answer.
-pub fn put_said(out: &mut [u8], r: Said) -> usize
-    ensures { Laid out.old 0 (said_text r) out.new result }
+pub fn put_said(out: &mut [u8], said: Said) -> usize
+    ensures { Laid out.old 0 (said_text said) out.new result }
 {
-    match r {
+    match said {
         Said::Agreed => script_lines::put(out, 0, b"ok"),
         Said::Nothing => script_lines::put(out, 0, b"none"),
         Said::Mark(b) => script_lines::put_byte(out, 0, b),
         Said::Number(n) => script_lines::put_number(out, 0, n),
         Said::Next(n) => put_next(out, n),
-        Said::Denied(n) => script_lines::put_refused(out, 0, n),
+        Said::Denied(r) => script_lines::put_refused(out, 0, r),
     }
 }
 
@@ -125,43 +118,25 @@ fn put_more(out: &mut [u8], at: usize, n: u64) -> usize
     script_lines::put_number(out, to, n)
 }
 
-// The numbers of a column after the first, a comma before each.
-fn put_rest(out: &mut [u8], start: usize, column: &[u64]) -> usize
-    ensures { Laid out.old start (more_texts (drop 1 column.now)) out.new result }
-{
-    let mut at = start;
-    let mut i: usize = 1;
-    while i < column.len() {
-        at = put_more(out, at, column[i]);
-        i += 1;
-    }
-    at
-}
-
 // The numbers of a column, joined by commas; `-` for none.
 pub fn put_column(out: &mut [u8], start: usize, column: &[u64]) -> usize
     ensures { Laid out.old start (numbers_text column.now) out.new result }
 {
-    if column.len() == 0 {
+    let Some((first, others)) = column.split_first() else {
         return script_lines::put_byte(out, start, b'-');
+    };
+    let mut at = script_lines::put_number(out, start, *first);
+    for n in others {
+        at = put_more(out, at, *n);
     }
-    let at = script_lines::put_number(out, start, column[0]);
-    put_rest(out, at, column)
+    at
 }
 
 // The numbers of records.
 pub fn numbers_of(files: [FileRecord; Version::ROOM]) -> [u64; Version::ROOM]
     ensures { result ≡ map number_of files }
 {
-    let mut column = [0u64; Version::ROOM];
-    let mut i: usize = 0;
-    while i < Version::ROOM {
-        let f = files[i];
-        let number = f.number;
-        column[i] = number.0;
-        i += 1;
-    }
-    column
+    files.map(|f| f.number.0)
 }
 
 // The numbers of the records from a place up to another, joined by commas; `-` for none.

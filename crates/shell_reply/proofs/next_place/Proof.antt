@@ -1,5 +1,4 @@
 -- `shell_reply::next_place` meets its contract. Assumes nothing.
-use mathlib.Core.Path.{◌≡◌}
 use borrow.Author.Tests.{eq-eqb, ne_eqb, le-leb, lt-leb}
 use Rattle.shell_reply.specs.Replies.{next_place}
 use borrow.Author.Rules.{rules}

@@ -1,7 +1,4 @@
 -- `shell_reply::put_files` meets its contract. Assumes nothing.
-use mathlib.Core.Path.{◌≡◌}
-use native.Mathlib.Omega.{arith}
-use lib.ListN.{length}
 use Rattle.shell_reply.specs.ReplyLaws.{files_back, files_past, files_in_lem}
 use borrow.Author.Rules.{rules}
 use Rattle.shell_reply.proofs.put_files.Statement.{statement}

@@ -1,5 +1,4 @@
 -- `shell_reply::put_mark` meets its contract. Assumes nothing.
-use mathlib.Core.Path.{◌≡◌}
 use borrow.Author.Tests.{eq-eqb, ne_eqb}
 use Rattle.shell_reply.specs.Replies.{mark_text}
 use borrow.Author.Rules.{rules}
