@@ -42,10 +42,10 @@ fn put_file(out: &mut [u8], at: usize, list: &[u8], from: usize) -> Told
 
 // The mark of an entry of files: `<` only the left has it, `>` only the right, `~` both have the number.
 fn mark_of(kind: u8) -> u8 {
-    if kind == Kind::LEFT {
+    if kind == Kind::Left.byte() {
         return b'<';
     }
-    if kind == Kind::RIGHT {
+    if kind == Kind::Right.byte() {
         return b'>';
     }
     b'~'
@@ -56,7 +56,7 @@ fn put_contents(out: &mut [u8], at: usize, list: &[u8], from: usize, kind: u8) -
     requires { from ≤ length list.now }
     ensures { result.from ≤ length list.now }
 {
-    if kind == Kind::LEFT {
+    if kind == Kind::Left.byte() {
         let number = snapshot_parse::get_number(list, from, Snapshot::NUMBER);
         let end = snapshot_parse::after(list, from, Snapshot::NUMBER);
         let to = script_lines::put_number(out, at, number);
