@@ -15,7 +15,7 @@ use Rattle.model.specs.Snapshot.{same_bytes}
 use Rattle.model.specs.DifferenceBytes.{left_kind, right_kind, changed_kind}
 use Rattle.snapshot_parse.specs.Parsing.{At}
 use Rattle.snapshot_parse.specs.ParsingLaws.{parts_length}
-use Rattle.difference_scan.specs.Scan.{after_part, part_bytes, rise_of, parts_at, run_entries, after_all, left_entry, right_entry, same_kind, kind_at, entry_of}
+use Rattle.difference_scan.specs.Scan.{after_part, part_bytes, rise_of, parts_at, run_entries, after_all, left_entry, right_entry, same_kind, byte_of, kind_at, entry_of}
 use Rattle.difference_scan.specs.ScanLaws.{part_lent}
 use Rattle.difference_scan.specs.Turns.{entries_of, left_over, place_after, bytes_after}
 use Rattle.difference_scan.specs.TurnLaws.{place_after_lem, over_less, Turned, turned, entries_none, all_none}
@@ -37,19 +37,19 @@ one_counted p k l listed x y = go (eqb k same_kind) (eqb k left_kind)
 -- ---- the places after a turn, by its kind
 module _ (q : Places) (t : Turn) where
   -- the left is passed by
-  pub advanced_right : t.kind ≡ right_kind → ◌≡◌ {A = Places} (record { left = q.left; lefts = q.lefts; right = t.right; rights = q.rights - 1 }) (advanced_by q t)
+  pub advanced_right : byte_of t.kind ≡ right_kind → ◌≡◌ {A = Places} (record { left = q.left; lefts = q.lefts; right = t.right; rights = q.rights - 1 }) (advanced_by q t)
   unfolding advanced_by place_after left_over
   advanced_right e = rw (e)
 
   -- the right is passed by
-  pub advanced_left : t.kind ≡ left_kind → ◌≡◌ {A = Places} (record { left = t.left; lefts = q.lefts - 1; right = q.right; rights = q.rights }) (advanced_by q t)
+  pub advanced_left : byte_of t.kind ≡ left_kind → ◌≡◌ {A = Places} (record { left = t.left; lefts = q.lefts - 1; right = q.right; rights = q.rights }) (advanced_by q t)
   unfolding advanced_by place_after left_over
   advanced_left e = rw (e)
 
   -- neither is
-  pub advanced_both : (t.kind ≡ right_kind → ⊥) → (t.kind ≡ left_kind → ⊥) → ◌≡◌ {A = Places} (record { left = t.left; lefts = q.lefts - 1; right = t.right; rights = q.rights - 1 }) (advanced_by q t)
+  pub advanced_both : (byte_of t.kind ≡ right_kind → ⊥) → (byte_of t.kind ≡ left_kind → ⊥) → ◌≡◌ {A = Places} (record { left = t.left; lefts = q.lefts - 1; right = t.right; rights = q.rights - 1 }) (advanced_by q t)
   unfolding advanced_by place_after left_over
-  advanced_both h k = rw (ne_eqb t.kind right_kind h, ne_eqb t.kind left_kind k)
+  advanced_both h k = rw (ne_eqb (byte_of t.kind) right_kind h, ne_eqb (byte_of t.kind) left_kind k)
 
 -- ---- the turns of a run
 -- both snapshots, whether the parts are pointers, and the level of files
@@ -76,7 +76,7 @@ module _ (p : Bool) (l : ℕ) (left right : List ℕ) where
     pub some : 0 < q.lefts + q.rights
     pub in_left : q.left ≤ length left
     pub in_right : q.right ≤ length right
-    pub kind : t.kind ≡ kind_at p q.lefts (drop q.left left) q.rights (drop q.right right)
+    pub kind : byte_of t.kind ≡ kind_at p q.lefts (drop q.left left) q.rights (drop q.right right)
     pub up_left : q.left ≤ t.left
     pub end_left : At left t.left (after_part p (drop q.left left))
     pub up_right : q.right ≤ t.right
@@ -85,7 +85,7 @@ module _ (p : Bool) (l : ℕ) (left right : List ℕ) where
   module _ (q : Places) (t : Turn) (f : FoundAt q t) where
     -- what it says
     abbrev found : Type 0
-    found = Turned p l q.lefts (drop q.left left) q.rights (drop q.right right) f.some t.kind
+    found = Turned p l q.lefts (drop q.left left) q.rights (drop q.right right) f.some (byte_of t.kind)
 
     -- it does
     pub finds : found
@@ -93,16 +93,16 @@ module _ (p : Bool) (l : ℕ) (left right : List ℕ) where
 
     -- the entry that it writes
     abbrev pub entry : List (List ℕ)
-    entry = entry_of p t.kind l (take (t.left - q.left) (drop q.left left)) (take (t.right - q.right) (drop q.right right))
+    entry = entry_of p (byte_of t.kind) l (take (t.left - q.left) (drop q.left left)) (take (t.right - q.right) (drop q.right right))
 
     -- each side after it
-    left_side : At left (advanced_by q t).left (bytes_after p right_kind t.kind (drop q.left left))
+    left_side : At left (advanced_by q t).left (bytes_after p right_kind (byte_of t.kind) (drop q.left left))
     unfolding advanced_by bytes_after
-    left_side = place_after_lem right_kind t.kind q.left t.left left (after_part p (drop q.left left)) f.in_left f.end_left
+    left_side = place_after_lem right_kind (byte_of t.kind) q.left t.left left (after_part p (drop q.left left)) f.in_left f.end_left
 
-    right_side : At right (advanced_by q t).right (bytes_after p left_kind t.kind (drop q.right right))
+    right_side : At right (advanced_by q t).right (bytes_after p left_kind (byte_of t.kind) (drop q.right right))
     unfolding advanced_by bytes_after
-    right_side = place_after_lem left_kind t.kind q.right t.right right (after_part p (drop q.right right)) f.in_right f.end_right
+    right_side = place_after_lem left_kind (byte_of t.kind) q.right t.right right (after_part p (drop q.right right)) f.in_right f.end_right
 
     -- all entries are this one and those that are left
     pub entries_on : entries_at q ≡ entry ++ entries_at (advanced_by q t)
@@ -113,7 +113,7 @@ module _ (p : Bool) (l : ℕ) (left right : List ℕ) where
 
     -- it is written: how far the entries are written then
     pub turn_on : {out₀ : List ℕ} {at : ℕ} {q₀ : Places} {out : List ℕ} {next listed : ℕ} → Written out₀ at q₀ out q next listed → next + length (join entry) ≤ length out → (out' : List ℕ) → out' ≡ put out next (join entry)
-        → Written out₀ at q₀ out' (advanced_by q t) (next + length (join entry)) (counted_by listed t.kind)
+        → Written out₀ at q₀ out' (advanced_by q t) (next + length (join entry)) (counted_by listed (byte_of t.kind))
     unfolding advanced_by
     turn_on {out₀ = out₀} {at = at} {q₀ = q₀} {out = out} {next = next} {listed = listed} w fits out' e =
         let after = entries_at (advanced_by q t) in
@@ -122,14 +122,14 @@ module _ (p : Bool) (l : ℕ) (left right : List ℕ) where
         record {
           in_left = left_side.within;
           in_right = right_side.within;
-          few_lefts = omega (arith, w.few_lefts, over_less right_kind t.kind q.lefts);
-          few_rights = omega (arith, w.few_rights, over_less left_kind t.kind q.rights);
+          few_lefts = omega (arith, w.few_lefts, over_less right_kind (byte_of t.kind) q.lefts);
+          few_rights = omega (arith, w.few_rights, over_less left_kind (byte_of t.kind) q.rights);
           long = ap length e ∙ length_put out next (join entry) fits ∙ w.long;
           room = omega (arith, w.room, long);
-          count = omega (arith, w.count, one_counted p t.kind l listed (take (t.left - q.left) (drop q.left left)) (take (t.right - q.right) (drop q.right right)), ap length entries_on, length-append entry after);
+          count = omega (arith, w.count, one_counted p (byte_of t.kind) l listed (take (t.left - q.left) (drop q.left left)) (take (t.right - q.right) (drop q.right right)), ap length entries_on, length-append entry after);
           laid = ap (λ (o : List ℕ). put o (next + length (join entry)) (join after)) e ∙ put_append out next (join entry) (join after) fits ∙ ap (put out next) (sym all) ∙ w.laid;
-          after_left = ap (after_all p (left_over right_kind t.kind q.lefts)) left_side.rest ∙ sym finds.left_after ∙ w.after_left;
-          after_right = ap (after_all p (left_over left_kind t.kind q.rights)) right_side.rest ∙ sym finds.right_after ∙ w.after_right;
+          after_left = ap (after_all p (left_over right_kind (byte_of t.kind) q.lefts)) left_side.rest ∙ sym finds.left_after ∙ w.after_left;
+          after_right = ap (after_all p (left_over left_kind (byte_of t.kind) q.rights)) right_side.rest ∙ sym finds.right_after ∙ w.after_right;
         }
 
     -- the output has room for the entry
@@ -141,10 +141,10 @@ module _ (p : Bool) (l : ℕ) (left right : List ℕ) where
     -- one part fewer is left, or two
     pub fewer : (advanced_by q t).lefts + (advanced_by q t).rights < q.lefts + q.rights
     unfolding advanced_by left_over
-    fewer = go (eqb t.kind right_kind) refl (eqb t.kind left_kind) refl
+    fewer = go (eqb (byte_of t.kind) right_kind) refl (eqb (byte_of t.kind) left_kind) refl
       where
-        go : (a : Bool) → eqb t.kind right_kind ≡ a → (b : Bool) → eqb t.kind left_kind ≡ b → cond a q.lefts (q.lefts - 1) + cond b q.rights (q.rights - 1) < q.lefts + q.rights
-        go true e true g = absurd (omega (arith, eqb-true t.kind right_kind e, eqb-true t.kind left_kind g))
+        go : (a : Bool) → eqb (byte_of t.kind) right_kind ≡ a → (b : Bool) → eqb (byte_of t.kind) left_kind ≡ b → cond a q.lefts (q.lefts - 1) + cond b q.rights (q.rights - 1) < q.lefts + q.rights
+        go true e true g = absurd (omega (arith, eqb-true (byte_of t.kind) right_kind e, eqb-true (byte_of t.kind) left_kind g))
         go true e false g = omega (arith, finds.rights g)
         go false e true g = omega (arith, finds.lefts e)
         go false e false g = omega (arith, finds.lefts e, finds.rights g)

@@ -8,7 +8,7 @@ ghost use Rattle.model.specs.File.{level_count};
 ghost use Rattle.model.specs.Snapshot.{section, counter_count};
 ghost use Rattle.model.specs.DifferenceBytes.{left_kind, right_kind};
 ghost use Rattle.snapshot_parse.specs.Parsing.{At};
-ghost use Rattle.difference_scan.specs.Scan.{after_all};
+ghost use Rattle.difference_scan.specs.Scan.{after_all, byte_of};
 ghost use Rattle.difference_scan.specs.Turns.{entries_of};
 ghost use Rattle.difference_scan.specs.Listing.{advanced_by, counted_by, level_entries, pointer_entries, levels_at, counter_entry, counter_entries, as_is, list_of};
 ghost use Rattle.difference_list.specs.Runs.{RunsAt};
@@ -28,39 +28,35 @@ struct Laid {
 
 // The places after a turn. Internal. Requires: a side that it does not pass by has a part left.
 pub fn advanced(p: Places, t: Turn) -> Places
-    requires { (eqb t.kind right_kind ≡ false → 0 < p.lefts) × (eqb t.kind left_kind ≡ false → 0 < p.rights) }
+    requires { (eqb (byte_of t.kind) right_kind ≡ false → 0 < p.lefts) × (eqb (byte_of t.kind) left_kind ≡ false → 0 < p.rights) }
     ensures { result ≡ advanced_by p t }
 {
-    if t.kind == Kind::RIGHT {
-        return Places {
-            left: p.left,
-            lefts: p.lefts,
-            right: t.right,
-            rights: p.rights - 1,
-        };
-    }
-    if t.kind == Kind::LEFT {
-        return Places {
+    match t.kind {
+        Kind::Left => Places {
             left: t.left,
             lefts: p.lefts - 1,
-            right: p.right,
-            rights: p.rights,
-        };
-    }
-    Places {
-        left: t.left,
-        lefts: p.lefts - 1,
-        right: t.right,
-        rights: p.rights - 1,
+            ..p
+        },
+        Kind::Right => Places {
+            right: t.right,
+            rights: p.rights - 1,
+            ..p
+        },
+        Kind::Changed | Kind::Same => Places {
+            left: t.left,
+            lefts: p.lefts - 1,
+            right: t.right,
+            rights: p.rights - 1,
+        },
     }
 }
 
 // How many entries there are after a turn. Requires: the number can be one more.
-fn counted(listed: usize, kind: u8) -> usize
+fn counted(listed: usize, kind: Kind) -> usize
     requires { listed + 1 < 18446744073709551616 }
-    ensures { result ≡ counted_by listed kind }
+    ensures { result ≡ counted_by listed (byte_of kind) }
 {
-    if kind == Kind::SAME {
+    if kind == Kind::Same {
         return listed;
     }
     listed + 1
@@ -85,27 +81,17 @@ fn lay_run(
     // A merge: a turn passes by a part of the left, of the right, or of both.
     while 0 < p.lefts + p.rights {
         let t = difference_scan::next_turn(left, right, p, pointer);
-        let a = p.left;
-        let a_end = t.left;
-        let b = p.right;
-        let b_end = t.right;
-        next = difference_scan::put_entry(
-            out,
-            next,
-            t.kind,
-            level,
-            pointer,
-            &left[a..a_end],
-            &right[b..b_end],
-        );
+        let x = &left[p.left..t.left];
+        let y = &right[p.right..t.right];
+        next = difference_scan::put_entry(out, next, t.kind, level, pointer, x, y);
         listed = counted(listed, t.kind);
         p = advanced(p, t);
     }
     Laid {
         left: p.left,
         right: p.right,
-        next: next,
-        listed: listed,
+        next,
+        listed,
     }
 }
 

@@ -6,7 +6,7 @@ use Rattle.model.specs.File.{level_count}
 use Rattle.model.specs.Snapshot.{section, same_bytes, byte_long, count_long, number_long, counter_count, counters_long, next_at}
 use Rattle.model.specs.DifferenceBytes.{left_kind, right_kind}
 use Rattle.snapshot_parse.specs.Parsing.{number_in}
-use Rattle.difference_scan.specs.Scan.{after_all, same_kind}
+use Rattle.difference_scan.specs.Scan.{after_all, same_kind, byte_of}
 use Rattle.difference_scan.specs.Turns.{entries_of, left_over, place_after}
 use Rattle.difference_scan.specs.declared.Places.{Places}
 use Rattle.difference_scan.specs.declared.Turn.{Turn}
@@ -15,10 +15,10 @@ use Rattle.difference_scan.specs.declared.Turn.{Turn}
 -- both sides after a turn: the left is passed by where only the right has the part, the right where only the left has it
 unfoldable pub advanced_by : Places → Turn → Places
 advanced_by p t = record {
-  left = place_after right_kind t.kind p.left t.left;
-  lefts = left_over right_kind t.kind p.lefts;
-  right = place_after left_kind t.kind p.right t.right;
-  rights = left_over left_kind t.kind p.rights;
+  left = place_after right_kind (byte_of t.kind) p.left t.left;
+  lefts = left_over right_kind (byte_of t.kind) p.lefts;
+  right = place_after left_kind (byte_of t.kind) p.right t.right;
+  rights = left_over left_kind (byte_of t.kind) p.rights;
 }
 
 -- how many entries there are after a turn

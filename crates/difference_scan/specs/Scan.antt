@@ -6,6 +6,8 @@ use Rattle.lemmas.specs.Compare.{compare}
 use Rattle.model.specs.Snapshot.{same_bytes, byte_long, number_long}
 use Rattle.model.specs.DifferenceBytes.{left_kind, right_kind, changed_kind}
 use Rattle.snapshot_parse.specs.Parsing.{number_in, after_file, after_entry, parts_in, after_parts}
+use Rattle.difference_scan.specs.declared.Kind.{Kind}
+use Rattle.difference_scan.specs.declared.Kind.TheVariants.{Left, Right, Changed, Same}
 
 -- ---- the parts
 -- the bytes after the part that these begin with
@@ -61,6 +63,13 @@ run_entries p l xs ys = compare (rise_of p) same_bytes (left_entry p l) (right_e
 -- what a turn finds that is neither on one side alone nor changed
 abbrev pub same_kind : ℕ
 same_kind = 3
+
+-- the byte of what a turn finds
+abbrev pub byte_of : Kind → ℕ
+byte_of Left = left_kind
+byte_of Right = right_kind
+byte_of Changed = changed_kind
+byte_of Same = same_kind
 
 -- of n parts the first, with number x, goes before the first of m parts, with number y
 unfoldable pub goes_first : ℕ → ℕ → ℕ → ℕ → Bool

@@ -1,7 +1,7 @@
 -- Laws of runs of parts: places, the bytes of a part, and what a turn finds and lays. Assumes nothing.
 use Rattle.std.specs.Prelude.{ℕ, ◌+◌, ◌-◌, ◌≤◌, min, ◌≡◌, refl, Bool, true, false, cond, List, [], ◌++◌, eqb, ltb, length, take, drop}
 use Rattle.std.proofs.Math.Path.{sym}
-use Rattle.std.proofs.Common.{ap, ◌∙◌, append-nil, length-drop}
+use Rattle.std.proofs.Common.{◌⊎◌, inl, inr, ap, ◌∙◌, append-nil, length-drop}
 use native.Mathlib.Omega.{arith}
 use Rattle.std.proofs.Math.ListN.{length-append}
 use borrow.Author.Tests.{eq-eqb, ne_eqb, eqb-true, eqb-false}
@@ -12,7 +12,9 @@ use Rattle.lemmas.specs.Slices.{put, put_nil, length_put, run_within}
 use Rattle.lemmas.specs.Laying.{put_next}
 use Rattle.model.specs.Snapshot.{same_bytes, byte_long}
 use Rattle.model.specs.DifferenceBytes.{left_kind, right_kind, changed_kind}
-use Rattle.difference_scan.specs.Scan.{after_part, part_bytes, rise_long, rise_of, head, tail, left_entry, right_entry, same_kind, goes_first, kind_by, kind_at, entry_of}
+use Rattle.difference_scan.specs.declared.Kind.{Kind}
+use Rattle.difference_scan.specs.declared.Kind.TheVariants.{Left, Right, Changed, Same}
+use Rattle.difference_scan.specs.Scan.{after_part, part_bytes, rise_long, rise_of, head, tail, left_entry, right_entry, same_kind, byte_of, goes_first, kind_by, kind_at, entry_of}
 
 -- ---- places
 -- the number that parts rise by has at most eight bytes
@@ -44,6 +46,15 @@ unfolding part_bytes
 part_lent p src at end h t = cut_lent src at end (after_part p (drop at src)) h t
 
 -- ---- what a turn finds
+-- an entry is written of what only the left has
+pub left_byte : (k : Kind) → k ≡ Left → byte_of k ≡ same_kind → ⊥
+left_byte k e h = let f : byte_of k ≡ left_kind = ap byte_of e in omega arith
+
+-- an entry is written of a part of the right, and it is not that of the left
+pub right_byte : (k : Kind) → (k ≡ Right) ⊎ (k ≡ Changed) → (byte_of k ≡ same_kind → ⊥) × (byte_of k ≡ left_kind → ⊥)
+right_byte k (inl e) = let f : byte_of k ≡ right_kind = ap byte_of e in (λ h. omega arith, λ h. omega arith)
+right_byte k (inr e) = let f : byte_of k ≡ changed_kind = ap byte_of e in (λ h. omega arith, λ h. omega arith)
+
 module _ (n x m y : ℕ) where
   -- of no parts none goes first
   pub first_none : n ≡ 0 → false ≡ goes_first n x m y

@@ -5,24 +5,36 @@ ghost use Rattle.std.specs.Prelude.{◌≡◌, ◌+◌, ◌≤◌, length, drop}
 ghost use Rattle.lemmas.specs.Slices.{put};
 ghost use Rattle.lemmas.specs.Lists.{join};
 ghost use Rattle.snapshot_parse.specs.Parsing.{At, after_key};
-ghost use Rattle.difference_scan.specs.Scan.{after_part, rise_long, rise_of, head, tail, goes_first, kind_by, kind_at, entry_of};
+ghost use Rattle.difference_scan.specs.Scan.{after_part, rise_long, rise_of, head, tail, byte_of, goes_first, kind_by, kind_at, entry_of};
 
 use keys::Key;
 use snapshot_parts::Snapshot;
 
-// The kinds of an entry of files in a list, and what a turn finds that no entry is written of.
-#[derive(Clone, Copy)]
-pub struct Kind {}
+// What a turn finds. An entry of files in a list has one of the first three kinds; no entry is written of the last.
+#[derive(Clone, Copy, PartialEq, Eq)]
+pub enum Kind {
+    // Only the left has it.
+    Left,
+    // Only the right has it.
+    Right,
+    // Both have the number.
+    Changed,
+    // Both have it, with the same bytes.
+    Same,
+}
 
 impl Kind {
-    // Only the left has it.
-    pub const LEFT: u8 = 0;
-    // Only the right has it.
-    pub const RIGHT: u8 = 1;
-    // Both have the number.
-    pub const CHANGED: u8 = 2;
-    // Both have it, with the same bytes.
-    pub const SAME: u8 = 3;
+    // The byte of the kind in an entry of files.
+    pub fn byte(self) -> u8
+        ensures { result ≡ byte_of self }
+    {
+        match self {
+            Kind::Left => 0,
+            Kind::Right => 1,
+            Kind::Changed => 2,
+            Kind::Same => 3,
+        }
+    }
 }
 
 // How far two runs are read: the place of each in its bytes, and how many parts of it are left.
@@ -37,7 +49,7 @@ pub struct Places {
 // What a turn finds: its kind, and where the first part of each run ends.
 #[derive(Clone, Copy)]
 pub struct Turn {
-    pub kind: u8,
+    pub kind: Kind,
     pub left: usize,
     pub right: usize,
 }
@@ -100,25 +112,25 @@ pub fn goes_first(n: usize, x: u64, m: usize, y: u64) -> bool
 }
 
 // What a turn finds, of two runs with n and m parts left, whose first numbers are x and y: `same` tells whether these parts have the same bytes. Internal.
-pub fn kind_by(n: usize, x: u64, m: usize, y: u64, same: bool) -> u8
-    ensures { result ≡ kind_by n x m y same }
+pub fn kind_by(n: usize, x: u64, m: usize, y: u64, same: bool) -> Kind
+    ensures { byte_of result ≡ kind_by n x m y same }
 {
     if goes_first(n, x, m, y) {
-        return Kind::LEFT;
+        return Kind::Left;
     }
     if goes_first(m, y, n, x) {
-        return Kind::RIGHT;
+        return Kind::Right;
     }
     if same {
-        return Kind::SAME;
+        return Kind::Same;
     }
-    Kind::CHANGED
+    Kind::Changed
 }
 
 // What a turn finds at these places. Internal. Requires: the places are within the bytes.
 pub fn next_turn(left: &[u8], right: &[u8], p: Places, pointer: bool) -> Turn
     requires { (p.left ≤ length left.now) × (p.right ≤ length right.now) }
-    ensures { (result.kind ≡ kind_at pointer p.lefts (drop p.left left.now) p.rights (drop p.right right.now)) × (p.left ≤ result.left) × At left.now result.left (after_part pointer (drop p.left left.now)) × (p.right ≤ result.right) × At right.now result.right (after_part pointer (drop p.right right.now)) }
+    ensures { (byte_of result.kind ≡ kind_at pointer p.lefts (drop p.left left.now) p.rights (drop p.right right.now)) × (p.left ≤ result.left) × At left.now result.left (after_part pointer (drop p.left left.now)) × (p.right ≤ result.right) × At right.now result.right (after_part pointer (drop p.right right.now)) }
 {
     let a = p.left;
     let b = p.right;
@@ -129,21 +141,21 @@ pub fn next_turn(left: &[u8], right: &[u8], p: Places, pointer: bool) -> Turn
     let same = snapshot_parts::same(&left[a..left_end], &right[b..right_end]);
     let kind = kind_by(p.lefts, x, p.rights, y, same);
     Turn {
-        kind: kind,
+        kind,
         left: left_end,
         right: right_end,
     }
 }
 
 // Writes what an entry begins with. Returns the place after it. Requires: the output has these places.
-fn put_head(out: &mut [u8], at: usize, kind: u8, level: usize, pointer: bool) -> usize
-    requires { at + length (head pointer kind level) ≤ length out.old }
-    ensures { (result ≡ at + length (head pointer kind level)) × (out.new ≡ put out.old at (head pointer kind level)) }
+fn put_head(out: &mut [u8], at: usize, kind: Kind, level: usize, pointer: bool) -> usize
+    requires { at + length (head pointer (byte_of kind) level) ≤ length out.old }
+    ensures { (result ≡ at + length (head pointer (byte_of kind) level)) × (out.new ≡ put out.old at (head pointer (byte_of kind) level)) }
 {
     if pointer {
         return at;
     }
-    snapshot_parts::put_number(out, at, Snapshot::BYTE, kind as u64);
+    snapshot_parts::put_number(out, at, Snapshot::BYTE, kind.byte() as u64);
     snapshot_parts::put_number(out, at + Snapshot::BYTE, Snapshot::BYTE, level as u64);
     at + Snapshot::BYTE + Snapshot::BYTE
 }
@@ -164,23 +176,26 @@ fn put_tail(out: &mut [u8], at: usize, pointer: bool) -> usize
 pub fn put_entry(
     out: &mut [u8],
     at: usize,
-    kind: u8,
+    kind: Kind,
     level: usize,
     pointer: bool,
     x: &[u8],
     y: &[u8],
 ) -> usize
-    requires { at + length (join (entry_of pointer kind level x.now y.now)) ≤ length out.old }
-    ensures { (result ≡ at + length (join (entry_of pointer kind level x.now y.now))) × (out.new ≡ put out.old at (join (entry_of pointer kind level x.now y.now))) }
+    requires { at + length (join (entry_of pointer (byte_of kind) level x.now y.now)) ≤ length out.old }
+    ensures { (result ≡ at + length (join (entry_of pointer (byte_of kind) level x.now y.now))) × (out.new ≡ put out.old at (join (entry_of pointer (byte_of kind) level x.now y.now))) }
 {
-    if kind == Kind::SAME {
-        return at;
+    match kind {
+        Kind::Same => at,
+        Kind::Left => {
+            let start = put_head(out, at, kind, level, pointer);
+            let n = octets::lesser(rise_long(pointer), x.len());
+            let end = snapshot_parts::put_bytes(out, start, &x[0..n]);
+            put_tail(out, end, pointer)
+        }
+        Kind::Right | Kind::Changed => {
+            let start = put_head(out, at, kind, level, pointer);
+            snapshot_parts::put_bytes(out, start, y)
+        }
     }
-    let start = put_head(out, at, kind, level, pointer);
-    if kind != Kind::LEFT {
-        return snapshot_parts::put_bytes(out, start, y);
-    }
-    let n = octets::lesser(rise_long(pointer), x.len());
-    let end = snapshot_parts::put_bytes(out, start, &x[0..n]);
-    put_tail(out, end, pointer)
 }

@@ -9,6 +9,8 @@ use Rattle.model.specs.Difference.{Difference, only_left, only_right, changed, p
 use Rattle.model.specs.DifferenceBytes.{left_kind, right_kind, changed_kind, pointer_of}
 use Rattle.snapshot_parse.specs.Parsing.{At, number_in, key_in, after_key, file_in, after_file, after_parts}
 use Rattle.patch_list.specs.declared.Entry.{Entry}
+use Rattle.patch_list.specs.declared.Section.{Section}
+use Rattle.patch_list.specs.declared.Section.TheVariants.{Files, Pointers, Counters}
 
 -- ---- an entry
 -- an entry as it is read, the bytes after it, and whether it is right: it is good, and the bytes before those are just what it writes
@@ -59,6 +61,12 @@ counter_entry bs =
     let body : List ℕ = drop byte_long bs in
     let v : ℕ = number_in number_long body in
     record { entry = counter_is i v; rest = drop number_long body; right = ltb i counter_count && (leb v max_counter && leb number_long (length body)) }
+
+-- the place of a section in a list
+abbrev pub place_of : Section → ℕ
+place_of Files = 0
+place_of Pointers = 1
+place_of Counters = 2
 
 -- an entry of section s
 unfoldable pub entry_in : ℕ → List ℕ → Reading

@@ -10,7 +10,7 @@ ghost use Rattle.keys.specs.Key.{key_of};
 ghost use Rattle.records.specs.Record.{file_of, well_record};
 ghost use Rattle.snapshot_parse.specs.Parsing.{At};
 ghost use Rattle.patch_list.specs.List.{is_list};
-ghost use Rattle.patch_list.specs.Entries.{Found, number_only, whole_file, file_entry, pointer_entry, counter_entry, entry_in, last_standing, section_right, after_section};
+ghost use Rattle.patch_list.specs.Entries.{Found, number_only, whole_file, file_entry, pointer_entry, counter_entry, place_of, entry_in, last_standing, section_right, after_section};
 
 use counters::Counters;
 use difference_scan::Kind;
@@ -18,17 +18,12 @@ use keys::Key;
 use records::{FileRecord, Level};
 use snapshot_parts::Snapshot;
 
-// The sections of a list.
+// The sections of a list, in order.
 #[derive(Clone, Copy)]
-struct Section {}
-
-impl Section {
-    // The files.
-    const FILES: u8 = 0;
-    // The pointers.
-    const POINTERS: u8 = 1;
-    // The counters.
-    const COUNTERS: u8 = 2;
+enum Section {
+    Files,
+    Pointers,
+    Counters,
 }
 
 // An entry that is good and whose bytes are just what it writes: the place after it, and what it stands by in its section.
@@ -92,7 +87,7 @@ fn whole_file(src: &[u8], at: usize, kind: u64, level: u64) -> Option<Entry>
 {
     let f = snapshot_parse::get_file(src, at);
     if level >= Level::COUNT as u64
-        || kind > Kind::CHANGED as u64
+        || kind > Kind::Changed.byte() as u64
         || !records::is_well_formed(f.file)
     {
         return None;
@@ -116,7 +111,7 @@ fn file_entry(src: &[u8], at: usize) -> Option<Entry>
     let level_at = snapshot_parse::after(src, at, Snapshot::BYTE);
     let level = snapshot_parse::get_number(src, level_at, Snapshot::BYTE);
     let body = snapshot_parse::after(src, level_at, Snapshot::BYTE);
-    if kind == Kind::LEFT as u64 {
+    if kind == Kind::Left.byte() as u64 {
         return number_only(src, body, level);
     }
     whole_file(src, body, kind, level)
@@ -165,17 +160,15 @@ fn counter_entry(src: &[u8], at: usize) -> Option<Entry>
 }
 
 // The entry of a section at a place, if it is good and its bytes are just what it writes. Requires: the place is within the bytes.
-fn entry_at(src: &[u8], at: usize, section: u8) -> Option<Entry>
+fn entry_at(src: &[u8], at: usize, section: Section) -> Option<Entry>
     requires { at ≤ length src.now }
-    ensures { Found src.now (entry_in section (drop at src.now)) result }
+    ensures { Found src.now (entry_in (place_of section) (drop at src.now)) result }
 {
-    if section == Section::FILES {
-        return file_entry(src, at);
+    match section {
+        Section::Files => file_entry(src, at),
+        Section::Pointers => pointer_entry(src, at),
+        Section::Counters => counter_entry(src, at),
     }
-    if section == Section::POINTERS {
-        return pointer_entry(src, at);
-    }
-    counter_entry(src, at)
 }
 
 // Whether an entry stands after the last one, if there is one.
@@ -192,9 +185,9 @@ fn follows(last: Option<Entry>, e: Entry) -> bool
 }
 
 // The place after the section at a place, if the section is right. Requires: the place is within the bytes.
-fn section_at(src: &[u8], at: usize, section: u8) -> Option<usize>
+fn section_at(src: &[u8], at: usize, section: Section) -> Option<usize>
     requires { at ≤ length src.now }
-    ensures { MatchOption result (section_right section (drop at src.now) ≡ false) (λ next. (section_right section (drop at src.now) ≡ true) × At src.now next (after_section section (drop at src.now))) }
+    ensures { MatchOption result (section_right (place_of section) (drop at src.now) ≡ false) (λ next. (section_right (place_of section) (drop at src.now) ≡ true) × At src.now next (after_section (place_of section) (drop at src.now))) }
 {
     if src.len() - at < Snapshot::COUNT {
         return None;
@@ -217,13 +210,13 @@ fn section_at(src: &[u8], at: usize, section: u8) -> Option<usize>
 pub fn is_list(src: &[u8]) -> bool
     ensures { result ≡ is_list src.now }
 {
-    let Some(pointers_at) = section_at(src, 0, Section::FILES) else {
+    let Some(pointers_at) = section_at(src, 0, Section::Files) else {
         return false;
     };
-    let Some(counters_at) = section_at(src, pointers_at, Section::POINTERS) else {
+    let Some(counters_at) = section_at(src, pointers_at, Section::Pointers) else {
         return false;
     };
-    let Some(end) = section_at(src, counters_at, Section::COUNTERS) else {
+    let Some(end) = section_at(src, counters_at, Section::Counters) else {
         return false;
     };
     end == src.len()

@@ -7,6 +7,7 @@ ghost use Rattle.model.specs.File.{level_count};
 ghost use Rattle.model.specs.Snapshot.{section};
 ghost use Rattle.snapshot_parse.specs.Parsing.{At};
 ghost use Rattle.difference_scan.specs.Listing.{levels_at, as_is};
+ghost use Rattle.difference_scan.specs.Scan.{byte_of};
 ghost use Rattle.patch_scan.specs.Listed.{over_run};
 ghost use Rattle.patch_scan.specs.Outcome.{all_counters_over, pointers_over, levels_over, outcome_of};
 ghost use Rattle.patch_scan.specs.Over.{piece_of, Fitted, TooLong};
@@ -44,11 +45,11 @@ fn put_piece(out: &mut [u8], at: usize, src: &[u8]) -> Option<usize>
 }
 
 // Writes what a turn leaves, if it fits: the part x of the snapshot, or what the entry y brings. Requires: the place is within the output.
-fn put_over(out: &mut [u8], at: usize, kind: u8, pointer: bool, x: &[u8], y: &[u8]) -> Option<Piece>
+fn put_over(out: &mut [u8], at: usize, kind: Kind, pointer: bool, x: &[u8], y: &[u8]) -> Option<Piece>
     requires { at ≤ length out.old }
-    ensures { MatchOption result (TooLong out.old at (join (piece_of pointer kind x.now y.now)) out.new) (λ r. Fitted out.old at (join (piece_of pointer kind x.now y.now)) out.new r.next × (r.count ≡ length (piece_of pointer kind x.now y.now))) }
+    ensures { MatchOption result (TooLong out.old at (join (piece_of pointer (byte_of kind) x.now y.now)) out.new) (λ r. Fitted out.old at (join (piece_of pointer (byte_of kind) x.now y.now)) out.new r.next × (r.count ≡ length (piece_of pointer (byte_of kind) x.now y.now))) }
 {
-    if kind == Kind::LEFT {
+    if kind == Kind::Left {
         let next = put_piece(out, at, x)?;
         return Some(Piece { next, count: 1 });
     }

@@ -12,7 +12,7 @@ use Rattle.lemmas.specs.Slices.{put, put_append, join_append}
 use Rattle.model.specs.Snapshot.{byte_long}
 use Rattle.model.specs.DifferenceBytes.{left_kind, right_kind, head_long}
 use Rattle.snapshot_parse.specs.Parsing.{At, number_in}
-use Rattle.difference_scan.specs.Scan.{after_part, after_all}
+use Rattle.difference_scan.specs.Scan.{after_part, after_all, byte_of}
 use Rattle.difference_scan.specs.ScanLaws.{cut_lent, part_lent}
 use Rattle.difference_scan.specs.Turns.{left_over, place_after, bytes_after}
 use Rattle.difference_scan.specs.TurnLaws.{place_after_lem, over_less, all_none}
@@ -75,7 +75,7 @@ module _ (p : Bool) (left list : List ℕ) where
     pub some : 0 < q.lefts + q.rights
     pub in_left : q.left ≤ length left
     pub in_list : q.right ≤ length list
-    pub kind : t.kind ≡ over_kind p q.lefts (drop q.left left) q.rights (drop q.right list)
+    pub kind : byte_of t.kind ≡ over_kind p q.lefts (drop q.left left) q.rights (drop q.right list)
     pub up_left : q.left ≤ t.left
     pub end_left : At left t.left (after_part p (drop q.left left))
     pub up_list : q.right ≤ t.right
@@ -83,32 +83,32 @@ module _ (p : Bool) (left list : List ℕ) where
 
   module _ (q : Places) (t : Turn) (f : OverFound q t) where
     -- what it says
-    pub over_finds : OverTurned p q.lefts (drop q.left left) q.rights (drop q.right list) f.some t.kind
+    pub over_finds : OverTurned p q.lefts (drop q.left left) q.rights (drop q.right list) f.some (byte_of t.kind)
     over_finds = subst (λ (k : ℕ). OverTurned p q.lefts (drop q.left left) q.rights (drop q.right list) f.some k) (sym f.kind) (over_turned p q.lefts (drop q.left left) q.rights (drop q.right list) f.some)
 
     -- one part or entry fewer is left, or two
     pub over_fewer : (advanced_by q t).lefts + (advanced_by q t).rights < q.lefts + q.rights
     unfolding advanced_by left_over
-    over_fewer = go (eqb t.kind right_kind) refl (eqb t.kind left_kind) refl
+    over_fewer = go (eqb (byte_of t.kind) right_kind) refl (eqb (byte_of t.kind) left_kind) refl
       where
-        go : (a : Bool) → eqb t.kind right_kind ≡ a → (b : Bool) → eqb t.kind left_kind ≡ b → cond a q.lefts (q.lefts - 1) + cond b q.rights (q.rights - 1) < q.lefts + q.rights
-        go true e true g = absurd (omega (arith, eqb-true t.kind right_kind e, eqb-true t.kind left_kind g))
+        go : (a : Bool) → eqb (byte_of t.kind) right_kind ≡ a → (b : Bool) → eqb (byte_of t.kind) left_kind ≡ b → cond a q.lefts (q.lefts - 1) + cond b q.rights (q.rights - 1) < q.lefts + q.rights
+        go true e true g = absurd (omega (arith, eqb-true (byte_of t.kind) right_kind e, eqb-true (byte_of t.kind) left_kind g))
         go true e false g = omega (arith, over_finds.rights g)
         go false e true g = omega (arith, over_finds.lefts e)
         go false e false g = omega (arith, over_finds.lefts e, over_finds.rights g)
 
     -- what it writes
     abbrev pub piece : List (List ℕ)
-    piece = piece_of p t.kind (take (t.left - q.left) (drop q.left left)) (take (t.right - q.right) (drop q.right list))
+    piece = piece_of p (byte_of t.kind) (take (t.left - q.left) (drop q.left left)) (take (t.right - q.right) (drop q.right list))
 
     -- each side after it
-    left_on : At left (advanced_by q t).left (bytes_after p right_kind t.kind (drop q.left left))
+    left_on : At left (advanced_by q t).left (bytes_after p right_kind (byte_of t.kind) (drop q.left left))
     unfolding advanced_by bytes_after
-    left_on = place_after_lem right_kind t.kind q.left t.left left (after_part p (drop q.left left)) f.in_left f.end_left
+    left_on = place_after_lem right_kind (byte_of t.kind) q.left t.left left (after_part p (drop q.left left)) f.in_left f.end_left
 
-    list_on : At list (advanced_by q t).right (listed_after p left_kind t.kind (drop q.right list))
+    list_on : At list (advanced_by q t).right (listed_after p left_kind (byte_of t.kind) (drop q.right list))
     unfolding advanced_by
-    list_on = list_side p left_kind t.kind q.right t.right list f.in_list f.end_list
+    list_on = list_side p left_kind (byte_of t.kind) q.right t.right list f.in_list f.end_list
 
     -- all that is left is this and what is left then
     pieces_on : over_at q ≡ piece ++ over_at (advanced_by q t)
@@ -128,20 +128,20 @@ module _ (p : Bool) (left list : List ℕ) where
         record {
           in_left = left_on.within;
           in_list = list_on.within;
-          few_lefts = omega (arith, w.few_lefts, over_less right_kind t.kind q.lefts);
-          few_rights = omega (arith, w.few_rights, over_less left_kind t.kind q.rights);
+          few_lefts = omega (arith, w.few_lefts, over_less right_kind (byte_of t.kind) q.lefts);
+          few_rights = omega (arith, w.few_rights, over_less left_kind (byte_of t.kind) q.rights);
           within = omega (arith, g.place, g.room, g.long);
           long = g.long ∙ w.long;
           room = omega (arith, w.room, long, g.place);
           number = omega (arith, w.number, many, ap length pieces_on, length-append piece after);
           small = omega (arith, w.small, many, piece_few, fewer);
           laid = rw (g.place, g.laid) (put_append out next (join piece) (join after) g.room) ∙ ap (put out next) (sym all) ∙ w.laid;
-          after_left = ap (after_all p (left_over right_kind t.kind q.lefts)) left_on.rest ∙ sym over_finds.left_after ∙ w.after_left;
-          after_list = ap (after_each p (left_over left_kind t.kind q.rights)) list_on.rest ∙ sym over_finds.list_after ∙ w.after_list;
+          after_left = ap (after_all p (left_over right_kind (byte_of t.kind) q.lefts)) left_on.rest ∙ sym over_finds.left_after ∙ w.after_left;
+          after_list = ap (after_each p (left_over left_kind (byte_of t.kind) q.rights)) list_on.rest ∙ sym over_finds.list_after ∙ w.after_list;
         }
       where
         piece_few : length piece ≤ 1
-        piece_few = piece_one p t.kind (take (t.left - q.left) (drop q.left left)) (take (t.right - q.right) (drop q.right list))
+        piece_few = piece_one p (byte_of t.kind) (take (t.left - q.left) (drop q.left left)) (take (t.right - q.right) (drop q.right list))
 
         fewer : (advanced_by q t).lefts + (advanced_by q t).rights < q.lefts + q.rights
         fewer = over_fewer

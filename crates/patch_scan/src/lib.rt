@@ -4,7 +4,7 @@
 ghost use Rattle.std.specs.Prelude.{◌≡◌, ◌+◌, ◌≤◌, length, drop};
 ghost use Rattle.model.specs.Snapshot.{count_long};
 ghost use Rattle.snapshot_parse.specs.Parsing.{At, number_in};
-ghost use Rattle.difference_scan.specs.Scan.{after_part};
+ghost use Rattle.difference_scan.specs.Scan.{after_part, byte_of};
 ghost use Rattle.patch_scan.specs.Listed.{after_listed, named_of, after_each, run_long};
 ghost use Rattle.patch_scan.specs.Over.{is_bare, brought_at, over_kind};
 
@@ -30,7 +30,7 @@ pub fn listed_end(src: &[u8], at: usize, pointer: bool) -> usize
     }
     let start = snapshot_parse::after(src, at, Entry::HEAD);
     let kind = snapshot_parse::get_number(src, at, Snapshot::BYTE);
-    if kind == Kind::LEFT as u64 {
+    if kind == Kind::Left.byte() as u64 {
         return snapshot_parse::after(src, start, Snapshot::NUMBER);
     }
     difference_scan::part_end(src, start, false)
@@ -56,7 +56,7 @@ pub fn is_bare(y: &[u8], pointer: bool) -> bool
         let key_at = snapshot_parse::after(y, 0, Snapshot::BYTE);
         return snapshot_parse::get_number(y, key_at, Snapshot::BYTE) == 0;
     }
-    snapshot_parse::get_number(y, 0, Snapshot::BYTE) == Kind::LEFT as u64
+    snapshot_parse::get_number(y, 0, Snapshot::BYTE) == Kind::Left.byte() as u64
 }
 
 // Where in an entry the bytes that it brings begin. Internal.
@@ -72,7 +72,7 @@ pub fn brought_at(pointer: bool) -> usize
 // What a turn over a run of a snapshot and one of a list finds: which of both goes first. Internal. Requires: the places are within the bytes.
 pub fn next_over(left: &[u8], list: &[u8], p: Places, pointer: bool) -> Turn
     requires { (p.left ≤ length left.now) × (p.right ≤ length list.now) }
-    ensures { (result.kind ≡ over_kind pointer p.lefts (drop p.left left.now) p.rights (drop p.right list.now)) × (p.left ≤ result.left) × At left.now result.left (after_part pointer (drop p.left left.now)) × (p.right ≤ result.right) × At list.now result.right (after_listed pointer (drop p.right list.now)) }
+    ensures { (byte_of result.kind ≡ over_kind pointer p.lefts (drop p.left left.now) p.rights (drop p.right list.now)) × (p.left ≤ result.left) × At left.now result.left (after_part pointer (drop p.left left.now)) × (p.right ≤ result.right) × At list.now result.right (after_listed pointer (drop p.right list.now)) }
 {
     let x = difference_scan::rise_of(left, p.left, pointer);
     let y = named_of(list, p.right, pointer);
@@ -80,7 +80,7 @@ pub fn next_over(left: &[u8], list: &[u8], p: Places, pointer: bool) -> Turn
     let right_end = listed_end(list, p.right, pointer);
     let kind = difference_scan::kind_by(p.lefts, x, p.rights, y, false);
     Turn {
-        kind: kind,
+        kind,
         left: left_end,
         right: right_end,
     }

@@ -42,11 +42,13 @@ fn put_file(out: &mut [u8], at: usize, list: &[u8], from: usize) -> Told
 
 // The mark of an entry of files: `<` only the left has it, `>` only the right, `~` both have the number.
 fn mark_of(kind: u8) -> u8 {
-    match kind {
-        Kind::LEFT => b'<',
-        Kind::RIGHT => b'>',
-        _ => b'~',
+    if kind == Kind::Left.byte() {
+        return b'<';
     }
+    if kind == Kind::Right.byte() {
+        return b'>';
+    }
+    b'~'
 }
 
 // What follows the level in an entry of files: the number alone if only the left has it, else the file. Requires: the place is within the list.
@@ -54,7 +56,7 @@ fn put_contents(out: &mut [u8], at: usize, list: &[u8], from: usize, kind: u8) -
     requires { from ≤ length list.now }
     ensures { result.from ≤ length list.now }
 {
-    if kind == Kind::LEFT {
+    if kind == Kind::Left.byte() {
         let number = snapshot_parse::get_number(list, from, Snapshot::NUMBER);
         let end = snapshot_parse::after(list, from, Snapshot::NUMBER);
         let to = script_lines::put_number(out, at, number);

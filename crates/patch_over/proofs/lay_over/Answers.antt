@@ -1,7 +1,7 @@
 -- `lay_over` meets its contract. Assumes nothing.
 use Rattle.std.proofs.Common.{◌≡◌, ◌+◌, ◌<◌, ◌≤◌, ℕ, Bool, List, drop, sym, subst, arith}
 use Rattle.snapshot_parse.specs.Parsing.{At}
-use Rattle.difference_scan.specs.Scan.{after_part}
+use Rattle.difference_scan.specs.Scan.{after_part, byte_of}
 use Rattle.difference_scan.specs.declared.Places.{Places}
 use Rattle.difference_scan.specs.declared.Turn.{Turn}
 use Rattle.patch_scan.specs.Listed.{after_listed}
@@ -11,7 +11,7 @@ use Rattle.patch_over.proofs.lay_over.Goals as goal
 
 -- what a turn of the loop found
 found : {p : Bool} {left list out₀ : List ℕ} {at : ℕ} {q₀ : Places} {out : List ℕ} {q : Places} {next count : ℕ} {t : Turn} → OverWritten p left list out₀ at q₀ out q next count → 0 < q.lefts + q.rights
-    → (t.kind ≡ over_kind p q.lefts (drop q.left left) q.rights (drop q.right list)) × (q.left ≤ t.left) × At left t.left (after_part p (drop q.left left)) × (q.right ≤ t.right) × At list t.right (after_listed p (drop q.right list))
+    → (byte_of t.kind ≡ over_kind p q.lefts (drop q.left left) q.rights (drop q.right list)) × (q.left ≤ t.left) × At left t.left (after_part p (drop q.left left)) × (q.right ≤ t.right) × At list t.right (after_listed p (drop q.right list))
     → OverFound p left list q t
 found w some e = record { some = some; in_left = w.in_left; in_list = w.in_list; kind = e.0; up_left = e.1; end_left = e.2; up_list = e.3; end_list = e.4 }
 
