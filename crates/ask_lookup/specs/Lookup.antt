@@ -1,16 +1,15 @@
 -- The answers of lookups: the file that may hold a key, answers for lent output, and numbers from the greatest down. Assumes nothing.
-use Rattle.std.specs.Prelude.{ℕ, ◌-◌, List, [], ◌∷◌, ltb, length, replicate}
+use Rattle.std.specs.Prelude.{ℕ, ◌-◌, List, [], ◌∷◌, ltb, length, replicate, Option, Some, None}
 use Rattle.lemmas.specs.Slices.{put}
 use Rattle.model.specs.File.{max_files, max_word}
 use Rattle.model.specs.Answer.{Answer, ◌⇒◌, first_of}
-use Rattle.ask_lookup.specs.declared.Candidate.{Candidate}
-use Rattle.ask_lookup.specs.declared.Candidate.TheVariants.{File as Named, Nobody}
+use Rattle.keys.specs.declared.FileNumber.{FileNumber}
 use Rattle.ask_lookup.specs.declared.Column.{Column}
 
 -- the file that may hold the key, as a list
-unfoldable pub candidate_of : Candidate → List ℕ
-candidate_of (Named n) = n.0 ∷ []
-candidate_of Nobody = []
+unfoldable pub candidate_of : Option FileNumber → List ℕ
+candidate_of (Some n) = n.0 ∷ []
+candidate_of None = []
 
 -- an answer for lent output: 13 if the output is shorter
 unfoldable pub fitting : {A : Type 0} → ℕ → List A → Answer (List A)

@@ -1,5 +1,5 @@
 -- Laws of lookups: the answer of a lookup on a list, the files that hold a user key, and the one that may. Assumes nothing.
-use Rattle.std.specs.Prelude.{ℕ, zero, suc, ◌+◌, ◌-◌, ◌^◌, ◌≤◌, ◌<◌, ◌≡◌, Bool, cond, ltb, get_or, take, set, replicate}
+use Rattle.std.specs.Prelude.{ℕ, zero, suc, ◌+◌, ◌-◌, ◌^◌, ◌≤◌, ◌<◌, ◌≡◌, Bool, cond, ltb, get_or, take, set, replicate, Result, Ok, Err}
 use Rattle.std.proofs.Math.Path.{refl, sym, ap}
 use Rattle.std.proofs.Common.{◌∙◌, lt-ltb, le-ltb}
 use Rattle.std.proofs.Math.Bool.{true, false, not}
@@ -21,9 +21,8 @@ use Rattle.model.specs.File.{File, full, numbers, level_count, max_files, max_wo
 use Rattle.model.specs.Question.{find_file, passed, holds, lookup, candidate}
 use Rattle.model.proofs.QuestionLaws.{found_at, find_neither, find_index_is}
 use Rattle.model.specs.Calls.{lent_list, look_up}
-use Rattle.answers.specs.Outcome.{counted_of, filling}
-use Rattle.answers.specs.declared.Counted.{Counted}
-use Rattle.answers.specs.declared.Counted.TheVariants.{Filled, Refused}
+use Rattle.answers.specs.Outcome.{number_of, answer_of, filling}
+use Rattle.answers.specs.declared.Refusal as code
 use Rattle.records.specs.Record.{file_of, past}
 use Rattle.records.specs.RecordLaws.{AllWords}
 use Rattle.records.specs.Run.{run}
@@ -92,25 +91,25 @@ module _ {A : Type 0} (room : ℕ) (xs : List A) where
 -- a call with lent output
 module _ (a : Answer (List ℕ)) (out : List ℕ) where
   -- its count and the output after it are as the answer says
-  abbrev pub Answered : Counted → List ℕ → Type 0
-  Answered r after = (counted_of r ≡ filling a) × (after ≡ lent a out)
+  abbrev pub Answered : Result ℕ code.Refusal → List ℕ → Type 0
+  Answered r after = (answer_of r ≡ filling a) × (after ≡ lent a out)
 
   -- after a refusal the output is as it was
-  pub answered_refused : (n : ℕ) → a ≡ refused n → Answered (Refused n) out
-  unfolding counted_of filling on_answer lent
-  answered_refused n e = (rw e, rw e)
+  pub answered_refused : (r : code.Refusal) → a ≡ refused (number_of r) → Answered (Err r) out
+  unfolding answer_of filling on_answer lent
+  answered_refused r e = (rw e, rw e)
 
   -- else the answer is at the front
-  pub answered_gives : (xs : List ℕ) (n : ℕ) (after : List ℕ) → a ≡ gives xs → length xs ≡ n → after ≡ put out 0 xs → Answered (Filled n) after
-  unfolding counted_of filling on_answer lent
+  pub answered_gives : (xs : List ℕ) (n : ℕ) (after : List ℕ) → a ≡ gives xs → length xs ≡ n → after ≡ put out 0 xs → Answered (Ok n) after
+  unfolding answer_of filling on_answer lent
   answered_gives xs n after e k f = (rw e (ap gives (sym k)), rw e (f ∙ put_front out xs))
 
   -- an empty answer leaves it as it was
-  pub answered_none : a ≡ gives [] → Answered (Filled 0) out
+  pub answered_none : a ≡ gives [] → Answered (Ok 0) out
   answered_none e = answered_gives [] 0 out e refl (sym (put_nil out 0))
 
 -- the same for an equal answer
-pub answered_as : (a b : Answer (List ℕ)) (out : List ℕ) (r : Counted) (after : List ℕ) → a ≡ b → Answered b out r after → Answered a out r after
+pub answered_as : (a b : Answer (List ℕ)) (out : List ℕ) (r : Result ℕ code.Refusal) (after : List ℕ) → a ≡ b → Answered b out r after → Answered a out r after
 answered_as a b out r after e h = rw e h
 
 -- ---- the files of a run by their places

@@ -9,7 +9,7 @@ ghost use Rattle.model.specs.Key.{user_before, user};
 ghost use Rattle.model.specs.File.{full, numbers, max_files};
 ghost use Rattle.model.specs.Question.{passed, holds, lookup, candidate};
 ghost use Rattle.model.specs.Calls as calls;
-ghost use Rattle.answers.specs.Outcome.{counted_of, filling};
+ghost use Rattle.answers.specs.Outcome.{answer_of, filling};
 ghost use Rattle.keys.specs.Key.{key_of, user_of};
 ghost use Rattle.records.specs.Record.{file_of};
 ghost use Rattle.records.specs.Run.{run};
@@ -17,17 +17,10 @@ ghost use Rattle.level_list.specs.List.{on_list};
 ghost use Rattle.ask_find.specs.Finding.{on_lent, halved, Deep};
 ghost use Rattle.ask_lookup.specs.Lookup.{candidate_of, flip, column_of, fitting};
 
-use answers::{Counted, Refusal};
+use answers::Refusal;
 use keys::{FileNumber, Key, UserKey, Word};
 use level_list::FileList;
 use records::{FileRecord, Level, Version};
-
-// The answer of `look_up_in_level`: the file that may hold the key, or nobody.
-#[derive(Clone, Copy)]
-pub enum Candidate {
-    File(FileNumber),
-    Nobody,
-}
 
 // A list of numbers, zeros past them.
 #[derive(Clone, Copy)]
@@ -61,7 +54,7 @@ fn holding(files: [FileRecord; Version::ROOM], n: usize, u: UserKey) -> Column
     }
     Column {
         numbers: out,
-        count: count,
+        count,
     }
 }
 
@@ -88,20 +81,23 @@ fn flip_front(out: &mut [u64], n: usize)
 }
 
 // Writes the numbers of the first n files that hold the key's user key to lent output, greatest first. Requires: n is within the room.
-fn look_up_first(files: [FileRecord; Version::ROOM], n: usize, k: Key, out: &mut [u64]) -> Counted
+fn look_up_first(
+    files: [FileRecord; Version::ROOM],
+    n: usize,
+    k: Key,
+    out: &mut [u64],
+) -> Result<usize, Refusal>
     requires { n ≤ max_files }
-    ensures { (counted_of result ≡ filling (fitting (length out.old) (lookup 0 (run 0 n files) (key_of k)))) × (out.new ≡ lent (fitting (length out.old) (lookup 0 (run 0 n files) (key_of k))) out.old) }
+    ensures { (answer_of result ≡ filling (fitting (length out.old) (lookup 0 (run 0 n files) (key_of k)))) × (out.new ≡ lent (fitting (length out.old) (lookup 0 (run 0 n files) (key_of k))) out.old) }
 {
-    let u = keys::user_key(k);
-    let c = holding(files, n, u);
+    let c = holding(files, n, keys::user_key(k));
     let count = c.count;
     if out.len() < count {
-        return Counted::Refused(Refusal::OUTPUT);
+        return Err(Refusal::Output);
     }
-    let column = c.numbers;
-    lay_rising(&column[0..count], out);
+    lay_rising(&c.numbers[0..count], out);
     flip_front(out, count);
-    Counted::Filled(count)
+    Ok(count)
 }
 
 // Whether a file's smallest user key is above the key's.
@@ -120,50 +116,60 @@ fn look_up_deeper(
     k: Key,
     at: usize,
     out: &mut [u64],
-) -> Counted
+) -> Result<usize, Refusal>
     requires { (n ≤ max_files) × (at ≡ passed (key_of k) (run 0 n files)) }
-    ensures { (counted_of result ≡ filling (fitting (length out.old) (candidate (key_of k) (run 0 n files)))) × (out.new ≡ lent (fitting (length out.old) (candidate (key_of k) (run 0 n files))) out.old) }
+    ensures { (answer_of result ≡ filling (fitting (length out.old) (candidate (key_of k) (run 0 n files)))) × (out.new ≡ lent (fitting (length out.old) (candidate (key_of k) (run 0 n files))) out.old) }
 {
     if n <= at {
-        return Counted::Filled(0);
+        return Ok(0);
     }
     let f = files[at];
     if begins_after(f, k) {
-        return Counted::Filled(0);
+        return Ok(0);
     }
     if out.len() < 1 {
-        return Counted::Refused(Refusal::OUTPUT);
+        return Err(Refusal::Output);
     }
     out[0] = f.number.0;
-    Counted::Filled(1)
+    Ok(1)
 }
 
 // Writes the numbers of the files of a list by value that may hold the key to lent output. Requires: `at` is where the search by halves ended, if the list is within
 // the room.
-fn look_up_list(level: usize, l: FileList, k: Key, at: usize, out: &mut [u64]) -> Counted
+fn look_up_list(
+    level: usize,
+    l: FileList,
+    k: Key,
+    at: usize,
+    out: &mut [u64],
+) -> Result<usize, Refusal>
     requires { l.count ≤ max_files → at ≡ halved (key_of k) (take l.count l.files) }
-    ensures { (counted_of result ≡ filling (on_list level l (λ fs. calls.look_up full level fs (key_of k) (length out.old)))) × (out.new ≡ lent (on_list level l (λ fs. calls.look_up full level fs (key_of k) (length out.old))) out.old) }
+    ensures { (answer_of result ≡ filling (on_list level l (λ fs. calls.look_up full level fs (key_of k) (length out.old)))) × (out.new ≡ lent (on_list level l (λ fs. calls.look_up full level fs (key_of k) (length out.old))) out.old) }
 {
     if Level::COUNT <= level {
-        return Counted::Refused(Refusal::LEVEL);
+        return Err(Refusal::Level);
     }
     if !level_list::is_well_formed(level, l) {
-        return Counted::Refused(Refusal::FORM);
+        return Err(Refusal::Form);
     }
     if !keys::is_good(k) {
-        return Counted::Refused(Refusal::KEY);
+        return Err(Refusal::Key);
     }
-    let files = l.files;
     if level == 0 {
-        return look_up_first(files, l.count, k, out);
+        return look_up_first(l.files, l.count, k, out);
     }
-    look_up_deeper(files, l.count, k, at, out)
+    look_up_deeper(l.files, l.count, k, at, out)
 }
 
 // The numbers of the files of a lent list of one level that may hold the key. Above level 0 it is `find_file`'s file, if its smallest user key is not above. Level 0
 // gives every file that holds the user key, greatest number first. Past the answer the output stays, and a refusal writes nothing.
-pub fn look_up(level: usize, files: &[FileRecord], k: Key, out: &mut [u64]) -> Counted
-    ensures { (counted_of result ≡ filling (on_lent level files.now (λ fs. calls.look_up full level fs (key_of k) (length out.old)))) × (out.new ≡ lent (on_lent level files.now (λ fs. calls.look_up full level fs (key_of k) (length out.old))) out.old) }
+pub fn look_up(
+    level: usize,
+    files: &[FileRecord],
+    k: Key,
+    out: &mut [u64],
+) -> Result<usize, Refusal>
+    ensures { (answer_of result ≡ filling (on_lent level files.now (λ fs. calls.look_up full level fs (key_of k) (length out.old)))) × (out.new ≡ lent (on_lent level files.now (λ fs. calls.look_up full level fs (key_of k) (length out.old))) out.old) }
 {
     let at = ask_find::search(files, k);
     let l = ask_find::gather(files);
@@ -171,32 +177,25 @@ pub fn look_up(level: usize, files: &[FileRecord], k: Key, out: &mut [u64]) -> C
 }
 
 // The file, or nobody if it begins after the key.
-fn chosen(f: FileRecord, k: Key) -> Candidate
+fn chosen(f: FileRecord, k: Key) -> Option<FileNumber>
     ensures { candidate_of result ≡ cond (user_before (user (key_of k)) (user (file_of f).smallest)) [] ((file_of f).number ∷ []) }
 {
     if begins_after(f, k) {
-        return Candidate::Nobody;
+        None
+    } else {
+        Some(f.number)
     }
-    let number = f.number;
-    Candidate::File(number)
 }
 
-// No file.
-fn nobody() -> Candidate
-    ensures { candidate_of result ≡ [] }
-{
-    Candidate::Nobody
-}
-
-// The file of a lent list that may hold the key, in logarithmic time. Requires: the list is a well-formed level above 0.
-pub fn look_up_in_level(files: &[FileRecord], k: Key) -> Candidate
+// The file of a lent list that may hold the key, if there is one, in logarithmic time. Requires: the list is a well-formed level above 0.
+pub fn look_up_in_level(files: &[FileRecord], k: Key) -> Option<FileNumber>
     requires { Deep (map file_of files.now) }
     ensures { candidate_of result ≡ candidate (key_of k) (map file_of files.now) }
 {
     let at = ask_find::search(files, k);
     if at < files.len() {
-        let f = ask_find::nth(files, at);
-        return chosen(f, k);
+        chosen(ask_find::nth(files, at), k)
+    } else {
+        None
     }
-    nobody()
 }

@@ -6,23 +6,15 @@ ghost use Rattle.model.specs.Answer.{lent};
 ghost use Rattle.model.specs.File.{full};
 ghost use Rattle.model.specs.Question as model;
 ghost use Rattle.model.specs.Calls as calls;
-ghost use Rattle.answers.specs.Outcome.{counted_of, filling};
+ghost use Rattle.answers.specs.Outcome.{answer_of, filling};
 ghost use Rattle.keys.specs.Key.{user_of};
 ghost use Rattle.pick_range.specs.Ranges.{span_of};
 ghost use Rattle.store.specs.Store.{state_of, well_store, on_store};
-ghost use Rattle.ask_store.specs.Question.{leveled_of};
 
-use answers::{Counted, Refusal};
+use answers::Refusal;
 use keys::UserKey;
 use pick_range::Span;
 use store::Store;
-
-// The level of a memory table, or the number of the refusal.
-#[derive(Clone, Copy)]
-pub enum Leveled {
-    Level(usize),
-    Refused(u8),
-}
 
 // A memory table moves down only if the level after the next has at most this many overlapping bytes.
 const MOST_OVERLAP: u64 = 20971520;
@@ -31,21 +23,19 @@ const MOST_OVERLAP: u64 = 20971520;
 const DEEPEST: usize = 2;
 
 // The numbers of all files of the store, rising, into lent output. Past the answer the output stays, and a refusal writes nothing.
-pub fn live_files(s: Store, out: &mut [u64]) -> Counted
-    ensures { (counted_of result ≡ filling (on_store s (λ t. calls.live full t (length out.old)))) × (out.new ≡ lent (on_store s (λ t. calls.live full t (length out.old))) out.old) }
+pub fn live_files(s: Store, out: &mut [u64]) -> Result<usize, Refusal>
+    ensures { (answer_of result ≡ filling (on_store s (λ t. calls.live full t (length out.old)))) × (out.new ≡ lent (on_store s (λ t. calls.live full t (length out.old))) out.old) }
 {
     if !store::is_well_formed(s) {
-        return Counted::Refused(Refusal::FORM);
+        return Err(Refusal::Form);
     }
-    let counts = s.counts;
-    let n = levels::counted(counts);
+    let n = levels::counted(s.counts);
     if out.len() < n {
-        return Counted::Refused(Refusal::OUTPUT);
+        return Err(Refusal::Output);
     }
-    let files = s.files;
-    let column = records::numbers_of(files, 0, n);
+    let column = records::numbers_of(s.files, 0, n);
     ask_lookup::lay_rising(&column[0..n], out);
-    Counted::Filled(n)
+    Ok(n)
 }
 
 // The level of a memory table with this range: 0 if a level 0 file overlaps it. Otherwise it moves down while the next level has no overlap and the level after has
@@ -79,21 +69,17 @@ pub fn memtable_output_level(s: Store, span: Span) -> usize
 }
 
 // The level for a memory table with the user keys from start to stop.
-pub fn pick_memtable_output_level(s: Store, start: UserKey, stop: UserKey) -> Leveled
-    ensures { leveled_of result ≡ on_store s (λ t. calls.memtable full t (user_of start) (user_of stop)) }
+pub fn pick_memtable_output_level(s: Store, start: UserKey, stop: UserKey) -> Result<usize, Refusal>
+    ensures { answer_of result ≡ on_store s (λ t. calls.memtable full t (user_of start) (user_of stop)) }
 {
     if !store::is_well_formed(s) {
-        return Leveled::Refused(Refusal::FORM);
+        return Err(Refusal::Form);
     }
     if !keys::is_good_user(start) {
-        return Leveled::Refused(Refusal::KEY);
+        return Err(Refusal::Key);
     }
     if !keys::is_good_user(stop) {
-        return Leveled::Refused(Refusal::KEY);
+        return Err(Refusal::Key);
     }
-    let span = Span {
-        start: start,
-        stop: stop,
-    };
-    Leveled::Level(memtable_output_level(s, span))
+    Ok(memtable_output_level(s, Span { start, stop }))
 }

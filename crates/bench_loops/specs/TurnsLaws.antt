@@ -1,39 +1,37 @@
 -- Laws of many picks, one after another: what one more adds, where they stand, their result. Assumes nothing.
-use Rattle.std.specs.Prelude.{ℕ, suc, ◌+◌, ◌-◌, ◌<◌, ◌≤◌, ◌≡◌, List}
+use Rattle.std.specs.Prelude.{ℕ, suc, ◌+◌, ◌-◌, ◌<◌, ◌≤◌, ◌≡◌, true, false, List, Result, Ok, Err, is_ok}
 use Rattle.std.proofs.Math.Nat.{sub-zero}
 use Rattle.std.proofs.Common.{arith}
 use Rattle.std.proofs.Math.Path.{refl, ap}
+use Rattle.lemmas.specs.Order.{clash}
 use Rattle.model.specs.Answer.{Answer}
 use Rattle.model.specs.File.{State, full}
 use Rattle.model.specs.Pick as model
-use Rattle.answers.specs.declared.Outcome.{Outcome}
-use Rattle.answers.specs.declared.Outcome.TheVariants.{Done, Refused}
+use Rattle.answers.specs.declared.Refusal.{Refusal}
 use Rattle.store.specs.declared.Store.{Store}
 use Rattle.store.specs.Store.{on_store}
-use Rattle.pick_answer.specs.Picked.{pick_of}
-use Rattle.pick_plan.specs.declared.Taken.{Taken}
-use Rattle.pick_plan.specs.Plans.{taken_of}
+use Rattle.pick_answer.specs.declared.Picked.{Picked}
+use Rattle.pick_plan.specs.Plans.{taken_of, left_by}
 use Rattle.pick_lent.specs.Taking.{Leaves}
-use Rattle.bench_loops.specs.Turns.{done_one, done_by, many_done, sizes_done, ranges_done}
+use Rattle.bench_loops.specs.Turns.{done_by, many_done, sizes_done, ranges_done}
 
 -- a pick that is done is one more
-pub more_one : (t : Taken) → t.outcome ≡ Done → done_by t ≡ 1
-unfolding done_by done_one
-more_one t e = ap done_one e
+pub more_one : (t : Result Picked Refusal) → is_ok t ≡ true → done_by t ≡ 1
+unfolding done_by
+more_one (Ok c) e = refl
+more_one (Err r) e = let z : true ≡ false = cc in clash refl z
 
 -- one that is refused is none
-pub more_none : (t : Taken) (n : ℕ) → t.outcome ≡ Refused n → done_by t ≡ 0
-unfolding done_by done_one
-more_none t n e = ap done_one e
+pub more_none : (t : Result Picked Refusal) → is_ok t ≡ false → done_by t ≡ 0
+unfolding done_by
+more_none (Ok c) e = let z : true ≡ false = cc in clash refl z
+more_none (Err r) e = refl
 
 -- no pick is more than one
-at_most_one : (t : Taken) → done_by t ≤ 1
-unfolding done_by done_one
-at_most_one t = go t.outcome
-  where
-    go : (o : Outcome) → done_one o ≤ 1
-    go Done = omega arith
-    go (Refused n) = omega arith
+at_most_one : (t : Result Picked Refusal) → done_by t ≤ 1
+unfolding done_by
+at_most_one (Ok c) = omega arith
+at_most_one (Err r) = omega arith
 
 -- where so many picks on a store stand: the store as it is now, how many of how many were done, and that those and the rest make the whole
 pub record Standing (call : State → Answer model.Pick) (n : ℕ) (s : Store) : Type 0 where
@@ -46,7 +44,7 @@ pub record Standing (call : State → Answer model.Pick) (n : ℕ) (s : Store) :
 
 module _ (call : State → Answer model.Pick) where
   -- the first pick, and the others on the store that it leaves
-  many_turn : (m : ℕ) (h : Store) → many_done call (suc m) h ≡ done_by (taken_of (pick_of h (on_store h call))) + many_done call m (pick_of h (on_store h call)).store
+  many_turn : (m : ℕ) (h : Store) → many_done call (suc m) h ≡ done_by (taken_of (on_store h call)) + many_done call m (left_by h (on_store h call))
   unfolding many_done
   many_turn m h = refl
 
@@ -64,7 +62,7 @@ module _ (call : State → Answer model.Pick) where
     standing_starts = record { store = s; done = 0; turns = 0; same = starts_same; few = omega arith; within = omega arith }
 
     -- after one more pick
-    module _ (p : Standing call n s) (h : p.turns < n) (r : Taken) (z : Store) (l : Leaves p.store (on_store p.store call) r z) (d : ℕ) (e : d ≡ p.done + done_by r) where
+    module _ (p : Standing call n s) (h : p.turns < n) (r : Result Picked Refusal) (z : Store) (l : Leaves p.store (on_store p.store call) r z) (d : ℕ) (e : d ≡ p.done + done_by r) where
       pub next_same : d + many_done call (n - (p.turns + 1)) z ≡ many_done call n s
       next_same =
           let one : n - p.turns ≡ suc (n - (p.turns + 1)) = omega arith in

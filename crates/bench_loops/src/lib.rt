@@ -1,32 +1,18 @@
 // Calls made many times in a row on what is lent once, for timing: picks, each on the store that the one before has left, and searches in one list.
 #![tactic(auto)]
 
-ghost use Rattle.std.specs.Prelude.{◌≡◌, map, ◌+◌, ◌<◌, ◌≤◌, take};
+ghost use Rattle.std.specs.Prelude.{◌≡◌, map, ◌+◌, ◌≤◌, take};
 ghost use Rattle.model.specs.File.{max_files};
 ghost use Rattle.keys.specs.Key.{key_of};
 ghost use Rattle.records.specs.Record.{file_of};
-ghost use Rattle.bench_loops.specs.Rounds.{Asking, turned, asked, round_most};
-ghost use Rattle.bench_loops.specs.Turns.{done_by, sizes_done, ranges_done};
+ghost use Rattle.bench_loops.specs.Rounds.{Asking, asked};
+ghost use Rattle.bench_loops.specs.Turns.{sizes_done, ranges_done};
 
-use answers::Outcome;
 use keys::Key;
-use pick_plan::Taken;
 use records::{FileRecord, Version};
 use store::Store;
 
 // ---- picks
-
-// The number of picks done, with one more if this one was not refused. Requires: fewer than 2^32 were done.
-fn more_done(done: u64, t: Taken) -> u64
-    requires { done < 4294967296 }
-    ensures { result ≡ done + done_by t }
-{
-    let outcome = t.outcome;
-    match outcome {
-        Outcome::Done => done + 1,
-        Outcome::Refused(n) => done,
-    }
-}
 
 // Many size picks, each on the store that the one before left. Returns how many were not refused. Requires: at most 2^32 picks.
 fn pick_in_turn(s: &mut Store, maximum: u64, times: u64) -> u64
@@ -34,11 +20,10 @@ fn pick_in_turn(s: &mut Store, maximum: u64, times: u64) -> u64
     ensures { result ≡ sizes_done times s.old maximum }
 {
     let mut done: u64 = 0;
-    let mut k: u64 = 0;
-    while k < times {
-        let t = pick_lent::pick_compaction(s, maximum);
-        done = more_done(done, t);
-        k += 1;
+    for _ in 0..times {
+        if pick_lent::pick_compaction(s, maximum).is_ok() {
+            done += 1;
+        }
     }
     done
 }
@@ -65,11 +50,10 @@ fn compact_in_turn(
     ensures { result ≡ ranges_done times s.old maximum level (key_of start) (key_of stop) }
 {
     let mut done: u64 = 0;
-    let mut k: u64 = 0;
-    while k < times {
-        let t = pick_lent::compact_range(s, maximum, level, start, stop);
-        done = more_done(done, t);
-        k += 1;
+    for _ in 0..times {
+        if pick_lent::compact_range(s, maximum, level, start, stop).is_ok() {
+            done += 1;
+        }
     }
     done
 }
@@ -94,32 +78,19 @@ pub struct Round {
     pub sum: usize,
 }
 
-// A round after one more search: the place is added, and the other key is next.
-fn turn(r: Round, at: usize) -> Round
-    requires { (0 < r.left) × (r.sum + at ≤ round_most) }
-    ensures { result ≡ turned r at }
-{
-    let next = r.after;
-    let after = r.next;
-    Round {
-        next: next,
-        after: after,
-        left: r.left - 1,
-        sum: r.sum + at,
-    }
-}
-
 // The searches of a round in a lent list that is a well-formed level above 0.
 fn find_in_turn(files: &[FileRecord], round: Round) -> usize
     requires { Asking (map file_of files.now) round }
     ensures { result ≡ round.sum + asked round.left (key_of round.next) (key_of round.after) (map file_of files.now) }
 {
-    let mut r = round;
-    while 0 < r.left {
-        let at = ask_find::find_in_level(files, r.next);
-        r = turn(r, at);
+    let mut next = round.next;
+    let mut after = round.after;
+    let mut sum = round.sum;
+    for _ in 0..round.left {
+        sum += ask_find::find_in_level(files, next);
+        (next, after) = (after, next);
     }
-    r.sum
+    sum
 }
 
 // Internal. Requires: the first n records are a well-formed level above 0, and the sum stays small. Many searches in them, lent once: the sum of the places found.

@@ -1,10 +1,10 @@
 -- `holding` meets its contract: a turn writes the number of one more file if it holds the key.
-use Rattle.std.proofs.Common.{◌≡◌, ◌≤◌, length, get_or, take, get_or-take, length-take-le, sym, ap, ◌∙◌, arith, rules}
+use Rattle.std.proofs.Common.{◌≡◌, length, get_or-take, length-take-le, sym, ap, ◌∙◌, arith, rules}
 use Rattle.model.specs.File.{max_files}
 use Rattle.model.specs.Question.{holds}
 use Rattle.keys.specs.Key.{user_of}
 use Rattle.records.specs.Record.{file_of, past}
-use Rattle.ask_lookup.specs.LookupLaws.{Laying, lay_starts, lay_kept, lay_passed, lay_ends}
+use Rattle.ask_lookup.specs.LookupLaws.{lay_kept, lay_passed, lay_ends}
 use Rattle.ask_lookup.proofs.holding.Goals as goal
 use Rattle.ask_lookup.proofs.holding.Goals.{then-is_held, else-is_held}
 

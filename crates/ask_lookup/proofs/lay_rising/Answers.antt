@@ -1,5 +1,5 @@
 -- `lay_rising` meets its contract: a turn writes the number at the next of the sorted places.
-use Rattle.std.proofs.Common.{◌≡◌, ℕ, ◌+◌, ◌≤◌, ◌<◌, ltb, List, [], ◌∷◌, length, get_or, take, drop, replicate, get_or-take, length-take-le, drop_of_length-le, sym, ap, ◌∙◌, arith, rules}
+use Rattle.std.proofs.Common.{◌≡◌, ℕ, ◌+◌, ltb, [], ◌∷◌, length, get_or, drop, replicate, get_or-take, length-take-le, drop_of_length-le, sym, ap, ◌∙◌, arith}
 use Rattle.std.proofs.Math.ListN.{length-set}
 use Rattle.lemmas.specs.Lists.{sort}
 use Rattle.lemmas.specs.ListLaws.{sort_length}

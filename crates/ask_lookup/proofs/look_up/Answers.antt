@@ -1,5 +1,5 @@
 -- `look_up` meets its contract: it answers as on the gathered list. Assumes nothing.
-use Rattle.std.proofs.Common.{ap, sym, ◌∙◌, ◌≡◌, ◌≤◌, length}
+use Rattle.std.proofs.Common.{ap, sym, ◌∙◌, length}
 use Rattle.model.specs.File.{full}
 use Rattle.model.specs.Calls as calls
 use Rattle.keys.specs.Key.{key_of}

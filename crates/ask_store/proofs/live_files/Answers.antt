@@ -7,6 +7,7 @@ use Rattle.lemmas.specs.Slices.{put}
 use Rattle.model.specs.Answer.{Answer}
 use Rattle.model.specs.File.{full, numbers, max_files}
 use Rattle.model.specs.Calls as calls
+use Rattle.answers.specs.declared.Refusal.TheVariants.{Form, Output}
 use Rattle.records.specs.Run.{run}
 use Rattle.levels.specs.LevelsLaws as levels
 use Rattle.store.specs.declared.Store.{Store}
@@ -48,7 +49,7 @@ module _ (s : Store) (n : ℕ) (well : well_store s ≡ true) (places : length s
 pub returns-then-not-is_well_formed : goal.returns-then-not-is_well_formed
 returns-then-not-is_well_formed c =
     let room = length c.args.out.now in
-    answered_refused (asked c.args.s room) c.args.out.now 14 (live_ill c.args.s room (sym c.is_well_formed.ensures ∙ c.if-not-is_well_formed.true))
+    answered_refused (asked c.args.s room) c.args.out.now Form (live_ill c.args.s room (sym c.is_well_formed.ensures ∙ c.if-not-is_well_formed.true))
 
 pub returns-then-out-n : goal.returns-then-out-n
 returns-then-out-n c =
@@ -57,7 +58,7 @@ returns-then-out-n c =
     let room = length c.args.out.now in
     let w = sym c.is_well_formed.ensures ∙ c.if-not-is_well_formed.false in
     let q = (shape s _ c.well_formed.0).files in
-    answered_refused (asked s room) c.args.out.now 13
+    answered_refused (asked s room) c.args.out.now Output
     (answer s n w q c.counted-n.ensures room ∙ fitting_short room (sort ltb (column s n w q c.counted-n.ensures)) (omega (arith, long s n w q c.counted-n.ensures, c.if-out-n.true)))
 
 pub slice_bounds-lay_rising-end : goal.slice_bounds-lay_rising-end

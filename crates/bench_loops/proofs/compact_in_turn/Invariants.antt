@@ -6,13 +6,9 @@ use Rattle.keys.specs.Key.{key_of}
 use Rattle.bench_loops.specs.Turns.{many_done}
 use Rattle.bench_loops.proofs.compact_in_turn.Given as goal
 
-abbrev pub invariant-loop-k : goal.invariant-loop-k
-invariant-loop-k l =
+abbrev pub invariant-loop : goal.invariant-loop
+invariant-loop l =
     record {
-      same : l.done + many_done (λ t. model.manual_pick full t l.maximum l.level (key_of l.start) (key_of l.stop)) (l.times - l.k) l.s ≡ many_done (λ t. model.manual_pick full t l.maximum l.level (key_of l.start) (key_of l.stop)) l.times l.fn.s;
-      few : l.done ≤ l.k;
-      within : l.k ≤ l.times;
+      same : l.done + many_done (λ t. model.manual_pick full t l.maximum l.level (key_of l.start) (key_of l.stop)) (l.times - l.counter) l.s ≡ many_done (λ t. model.manual_pick full t l.maximum l.level (key_of l.start) (key_of l.stop)) l.times l.fn.s;
+      few : l.done ≤ l.counter;
     }
-
-abbrev pub decreases-loop-k : goal.decreases-loop-k
-decreases-loop-k l = l.times - l.k

@@ -5,13 +5,9 @@ use Rattle.model.specs.Pick as model
 use Rattle.bench_loops.specs.Turns.{many_done}
 use Rattle.bench_loops.proofs.pick_in_turn.Given as goal
 
-abbrev pub invariant-loop-k : goal.invariant-loop-k
-invariant-loop-k l =
+abbrev pub invariant-loop : goal.invariant-loop
+invariant-loop l =
     record {
-      same : l.done + many_done (λ t. model.size_pick full t l.maximum) (l.times - l.k) l.s ≡ many_done (λ t. model.size_pick full t l.maximum) l.times l.fn.s;
-      few : l.done ≤ l.k;
-      within : l.k ≤ l.times;
+      same : l.done + many_done (λ t. model.size_pick full t l.maximum) (l.times - l.counter) l.s ≡ many_done (λ t. model.size_pick full t l.maximum) l.times l.fn.s;
+      few : l.done ≤ l.counter;
     }
-
-abbrev pub decreases-loop-k : goal.decreases-loop-k
-decreases-loop-k l = l.times - l.k
