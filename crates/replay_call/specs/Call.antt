@@ -1,5 +1,6 @@
 -- The calls that a record holds, as code makes them. Assumes nothing.
-use Rattle.std.specs.Prelude.{ℕ, ◌≤◌, ◌≡◌, List, [], ◌∷◌, map, length, get_or, take, drop, replicate}
+use Rattle.std.specs.Prelude.{ℕ, ◌≤◌, ◌≡◌, List, [], ◌∷◌, map, length, get_or, take, drop, replicate, Some, None, Result}
+use Rattle.std.specs.Prelude as prelude
 use Rattle.std.proofs.Math.Option.{Option, none, some}
 use Rattle.lemmas.specs.Slices.{put}
 use Rattle.model.specs.Key as key
@@ -13,16 +14,15 @@ use Rattle.model.specs.Snapshot.{Read}
 use Rattle.model_replay.specs.Given.{given}
 use Rattle.model_replay.specs.Held.{held_key}
 use Rattle.model_replay.specs.Recording.{Asked, asks_size, edit_form, range_form, count_form, asked_form}
+use Rattle.answers.specs.declared.Refusal.{Refusal}
+use Rattle.keys.specs.declared.FileNumber.{FileNumber}
 use Rattle.keys.specs.Key.{key_record}
 use Rattle.edit.specs.declared.Deletion.{Deletion}
 use Rattle.edit.specs.declared.Addition.{Addition}
 use Rattle.edit.specs.declared.Pointing.{Pointing}
-use Rattle.edit.specs.declared.NewLog.{NewLog}
-use Rattle.edit.specs.declared.NewLog.TheVariants.{Keeps, Becomes}
 use Rattle.edit.specs.declared.Edit.{Edit}
 use Rattle.edit.specs.Edit.{blank_pointing, blank_deletion, blank_addition}
 use Rattle.store.specs.declared.Store.{Store}
-use Rattle.store.specs.declared.Stored.{Stored}
 use Rattle.store.specs.Store.{state_of, store_of, on_store, stored}
 use Rattle.model_replay.specs.Takes.{Takes}
 use Rattle.replay_given.specs.Given.{given_bytes}
@@ -61,9 +61,9 @@ addition_record a = record {
 }
 
 -- a log number
-unfoldable pub log_record : Option ℕ → NewLog
-log_record none = Keeps
-log_record (some n) = Becomes (record { 0 = n })
+unfoldable pub log_record : Option ℕ → prelude.Option FileNumber
+log_record none = None
+log_record (some n) = Some (record { 0 = n })
 
 -- the entries of an edit that its room holds, then blank ones
 module _ {A B : Type 0} where
@@ -101,9 +101,9 @@ count_in bs = value_or new (count_form.read bs)
 unfoldable pub count_of : ℕ → ℕ → CounterCall
 count_of tag n = get_or (new ∷ reuse n ∷ mark n ∷ last n ∷ manifest n ∷ previous n ∷ []) tag new
 
--- what it leaves
-unfoldable pub counted_by : Store → ℕ → ℕ → Stored
-counted_by s tag n = stored s (on_store s (λ t. counter full t (count_of tag n)))
+-- its result
+unfoldable pub counted_by : Store → ℕ → ℕ → Result Store Refusal
+counted_by s tag n = stored (on_store s (λ t. counter full t (count_of tag n)))
 
 -- the call that bytes begin with
 unfoldable pub asked_in : List ℕ → Asked

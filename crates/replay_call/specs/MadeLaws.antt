@@ -1,6 +1,6 @@
 -- What code's calls answer and leave on a well-formed store is what a replay gives and leaves. Assumes nothing.
 use Prim.Native.Nat.{ℕ, zero, suc, ◌-◌, ◌≤◌, min}
-use Rattle.std.specs.Prelude.{◌≡◌, Bool, true, false, cond, leb, take, drop}
+use Rattle.std.specs.Prelude.{◌≡◌, Bool, true, false, cond, leb, take, drop, Result, Ok, Err}
 use Rattle.std.proofs.Math.Path.{refl, sym, ap, subst}
 use Rattle.std.proofs.Common.{◌∙◌, leb-true, leb-false, take_all, arith}
 use mathlib.Core.List.{List, [], ◌∷◌, ◌++◌, map, map-id, map-map, map-append}
@@ -34,19 +34,23 @@ use Rattle.model_replay.specs.Held as blank
 use Rattle.model_replay.specs.Held.{held_key, held_pointer, held_addition, held_entries, held_edit}
 use Rattle.model_replay.proofs.HeldLaws.{held_alike, held_range}
 use Rattle.model_replay.specs.Recording.{previous_tag}
-use Rattle.answers.specs.Outcome.{outcome_of}
+use Rattle.std.specs.Result.{result_unwrap_or}
+use Rattle.answers.specs.Outcome.{result_of}
+use Rattle.answers.specs.declared.Refusal.{Refusal}
 use Rattle.keys.specs.Key.{key_of, key_record}
 use Rattle.keys.specs.KeyLaws.{key_of_record}
 use Rattle.edit.specs.Edit.{entries, blank_pointing, blank_deletion, blank_addition, pointing_of, deletion_of, addition_of, log_of, edit_of}
 use Rattle.pick_answer.specs.declared.Pick.{Pick}
-use Rattle.pick_answer.specs.Picked.{cause_record, picked_record, pick_of, well_picked}
+use Rattle.pick_answer.specs.Picked.{cause_record, picked_record, pick_record, pick_of, well_picked}
 use Rattle.pick_answer.specs.PickedLaws.{held, held_well}
 use Rattle.store.specs.declared.Store.{Store}
-use Rattle.store.specs.Store.{state_of, store_of, well_store, on_store, leaves, stored, StoreShape}
+use Rattle.store.specs.Store.{state_of, store_of, well_store, on_store, stored, StoreShape}
 use Rattle.store.specs.StoreLaws as store
-use Rattle.store_numbers.specs.Numbering.{handed}
+use Rattle.store_numbers.specs.declared.Handed.{Handed}
+use Rattle.store_numbers.specs.Numbering.{handed_record, handed}
 use Rattle.replay_given.specs.Given.{said_by, plain_given, handed_given, picked_given, is_number, can_tell}
 use Rattle.replay_call.specs.NumberLaws.{level_number}
+use Rattle.replay_call.specs.KnownLaws.{Told, edit_told, counter_told, new_told, size_told, range_told}
 use Rattle.replay_call.specs.Call.{pointing_record, deletion_record, addition_record, log_record, filled, edit_record, count_of, counted_by}
 
 -- ---- an edit as code has it
@@ -147,10 +151,15 @@ pub record Makes (s : Store) (c : history.Call) (after' : Store) (g : Given) : T
   pub left : after' ≡ store_of (after full (state_of s) c)
   pub gave : g ≡ given full (state_of s) c
 
+-- a result with another value
+abbrev pub valued : {A B : Type 0} → (A → B) → Result A Refusal → Result B Refusal
+valued f (Ok a) = Ok (f a)
+valued f (Err r) = Err r
+
 -- what is known of a pick: it is made, and its answer can be kept
-pub record MakesPick (s : Store) (c : history.Call) (r : Pick) : Type 0 where
-  pub made : Makes s c r.store (picked_given r.outcome r.picked)
-  pub tells : can_tell r.outcome r.picked ≡ true
+pub record MakesPick (s : Store) (c : history.Call) (r : Result Pick Refusal) : Type 0 where
+  pub made : Makes s c (result_unwrap_or (valued (λ k. k.store) r) s) (picked_given (valued (λ k. k.picked) r))
+  pub tells : can_tell (valued (λ k. k.picked) r) ≡ true
 
 -- ---- picked answers that can be kept
 -- a picked answer that can be kept: it is well-formed, and its score is a number
@@ -182,89 +191,88 @@ pub one_store : (s : Store) → StoreShape s → well_store s ≡ true → s ≡
 one_store s q w = store.canonical s q ((store.well_says s).0 w).sound
 
 -- the answer of a call that says nothing more
-plain_said : (a : Answer State) → plain_given (outcome_of a) ≡ on_answer (λ (t : State). accepted) a
-unfolding said_by outcome_of on_answer
-plain_said (gives t) = refl
-plain_said (refused n) = refl
+plain_said : (a : Answer State) → Told a → plain_given (valued (λ t. tt) (stored a)) ≡ on_answer (λ (t : State). accepted) a
+unfolding said_by stored result_of on_answer
+plain_said (gives t) h = refl
+plain_said (refused n) h = ap refused (h n refl)
 
 -- a well-formed store that is the store of its state
 module _ (s : Store) (w : well_store s ≡ true) (one : s ≡ store_of (state_of s)) where
   -- what an edit or a counter call leaves, by its answer
-  leaves_kept : (a : Answer State) → leaves s a ≡ store_of (kept (state_of s) a)
-  unfolding leaves kept
+  leaves_kept : (a : Answer State) → result_unwrap_or (stored a) s ≡ store_of (kept (state_of s) a)
+  unfolding stored result_of kept
   leaves_kept (gives t) = refl
   leaves_kept (refused n) = one
 
   -- a call that says nothing more, by the answer that it has for the state
-  plain_makes : (c : history.Call) (call : State → Answer State) (a : Answer State) → call (state_of s) ≡ a → after full (state_of s) c ≡ kept (state_of s) a
-      → given full (state_of s) c ≡ on_answer (λ (t : State). accepted) a → let r = stored s (on_store s call) in Makes s c r.store (plain_given r.outcome)
-  unfolding stored
-  plain_makes c call a e k g = rw (store.on_store_well s call w, e) record { left = leaves_kept a ∙ ap store_of (sym k); gave = plain_said a ∙ sym g }
+  plain_makes : (c : history.Call) (call : State → Answer State) (a : Answer State) → call (state_of s) ≡ a → Told a → after full (state_of s) c ≡ kept (state_of s) a
+      → given full (state_of s) c ≡ on_answer (λ (t : State). accepted) a → let r = stored (on_store s call) in Makes s c (result_unwrap_or r s) (plain_given (valued (λ t. tt) r))
+  plain_makes c call a e h k g = rw (store.on_store_well s call w, e) record { left = leaves_kept a ∙ ap store_of (sym k); gave = plain_said a h ∙ sym g }
 
   -- a pick, by its answer
-  answer_makes : (c : history.Call) (a : Answer pick.Pick) → after full (state_of s) c ≡ kept_pick (state_of s) a → given full (state_of s) c ≡ on_answer (λ (k : pick.Pick). picked (choice_of k.picked)) a
-      → ((k : pick.Pick) → a ≡ gives k → Tellable k.picked) → MakesPick s c (pick_of s a)
-  unfolding pick_of kept_pick on_answer outcome_of said_by can_tell picked_record
-  answer_makes c (gives k) e g h =
+  answer_makes : (c : history.Call) (a : Answer pick.Pick) → Told a → after full (state_of s) c ≡ kept_pick (state_of s) a → given full (state_of s) c ≡ on_answer (λ (k : pick.Pick). picked (choice_of k.picked)) a
+      → ((k : pick.Pick) → a ≡ gives k → Tellable k.picked) → MakesPick s c (pick_of a)
+  unfolding pick_of pick_record result_of kept_pick on_answer said_by can_tell picked_record
+  answer_makes c (gives k) n e g h =
       let t = h k refl in
       let same = (held k.picked t.good).0 in
       record {
         made = record { left = ap store_of (sym e); gave = ap (λ (x : pick.Picked). gives (picked (choice_of x))) same ∙ sym g };
         tells = both (well_picked (picked_record k.picked)) (is_number (cause_record k.picked.cause)) (held_well k.picked t.good) t.number;
       }
-  answer_makes c (refused n) e g h = record { made = record { left = one ∙ ap store_of (sym e); gave = sym g }; tells = refl }
+  answer_makes c (refused n) t e g h = record { made = record { left = one ∙ ap store_of (sym e); gave = ap refused (t n refl) ∙ sym g }; tells = refl }
 
   -- a pick on a store, by the answer that it has for the state
-  pick_makes : (c : history.Call) (call : State → Answer pick.Pick) (a : Answer pick.Pick) → call (state_of s) ≡ a → after full (state_of s) c ≡ kept_pick (state_of s) a
-      → given full (state_of s) c ≡ on_answer (λ (k : pick.Pick). picked (choice_of k.picked)) a → ((k : pick.Pick) → a ≡ gives k → Tellable k.picked) → MakesPick s c (pick_of s (on_store s call))
-  pick_makes c call a e k g h = rw (store.on_store_well s call w, e) (answer_makes c a k g h)
+  pick_makes : (c : history.Call) (call : State → Answer pick.Pick) (a : Answer pick.Pick) → call (state_of s) ≡ a → Told a → after full (state_of s) c ≡ kept_pick (state_of s) a
+      → given full (state_of s) c ≡ on_answer (λ (k : pick.Pick). picked (choice_of k.picked)) a → ((k : pick.Pick) → a ≡ gives k → Tellable k.picked) → MakesPick s c (pick_of (on_store s call))
+  pick_makes c call a e t k g h = rw (store.on_store_well s call w, e) (answer_makes c a t k g h)
 
 -- ---- the calls, on a store whose arrays have their lengths, as every store in code has: else a refused call would leave one that is not the store of its state
 -- an edit
-pub edit_made : (s : Store) (e : model.Edit) → StoreShape s → well_store s ≡ true → let r = stored s (on_store s (λ t. edit full t (edit_of (edit_record e)))) in Makes s (edits e) r.store (plain_given r.outcome)
+pub edit_made : (s : Store) (e : model.Edit) → StoreShape s → well_store s ≡ true → let r = stored (on_store s (λ t. edit full t (edit_of (edit_record e)))) in Makes s (edits e) (result_unwrap_or r s) (plain_given (valued (λ t. tt) r))
 unfolding after given
 edit_made s e q w =
     let t = state_of s in
     let same : edit full t (edit_of (edit_record e)) ≡ edit full t e = ap (edit full t) (record_held e) ∙ held_alike full t e in
-    plain_makes s w (one_store s q w) (edits e) (λ x. edit full x (edit_of (edit_record e))) (edit full t e) same refl refl
+    plain_makes s w (one_store s q w) (edits e) (λ x. edit full x (edit_of (edit_record e))) (edit full t e) same (edit_told t e) refl refl
 
 -- a size pick
-pub size_made : (s : Store) (m : ℕ) → StoreShape s → well_store s ≡ true → MakesPick s (picks_size m) (pick_of s (on_store s (λ t. size_pick full t m)))
+pub size_made : (s : Store) (m : ℕ) → StoreShape s → well_store s ≡ true → MakesPick s (picks_size m) (pick_of (on_store s (λ t. size_pick full t m)))
 unfolding after given
-size_made s m q w = pick_makes s w (one_store s q w) (picks_size m) (λ t. size_pick full t m) (size_pick full (state_of s) m) refl refl refl (size_tellable (state_of s) m)
+size_made s m q w = pick_makes s w (one_store s q w) (picks_size m) (λ t. size_pick full t m) (size_pick full (state_of s) m) refl (size_told (state_of s) m) refl refl (size_tellable (state_of s) m)
 
 -- a manual pick, for keys as code has them
 pub range_made : (s : Store) (m l : ℕ) (a b : key.Key) → StoreShape s → well_store s ≡ true
-    → MakesPick s (picks_range m l a b) (pick_of s (on_store s (λ t. manual_pick full t m l (key_of (key_record (held_key full a))) (key_of (key_record (held_key full b))))))
+    → MakesPick s (picks_range m l a b) (pick_of (on_store s (λ t. manual_pick full t m l (key_of (key_record (held_key full a))) (key_of (key_record (held_key full b))))))
 unfolding after given
 range_made s m l a b q w =
     let t = state_of s in
     let x = key_of (key_record (held_key full a)) in
     let y = key_of (key_record (held_key full b)) in
     let same : manual_pick full t m l x y ≡ manual_pick full t m l a b = (λ i. manual_pick full t m l (held_key_lem a i) (held_key_lem b i)) ∙ held_range full t m l a b in
-    pick_makes s w (one_store s q w) (picks_range m l a b) (λ t. manual_pick full t m l x y) (manual_pick full t m l a b) same refl refl (range_tellable t m l a b)
+    pick_makes s w (one_store s q w) (picks_range m l a b) (λ t. manual_pick full t m l x y) (manual_pick full t m l a b) same (range_told t m l a b) refl refl (range_tellable t m l a b)
 
 -- what new says, by its answer
-handed_said : (s : Store) (a : Answer calls.Handed) → handed_given (handed s a).outcome (handed s a).number.0 ≡ on_answer (λ (h : calls.Handed). said.handed h.number) a
-unfolding handed said_by outcome_of on_answer
-handed_said s (gives h) = refl
-handed_said s (refused n) = refl
+handed_said : (a : Answer calls.Handed) → Told a → handed_given (valued (λ h. h.number) (handed a)) ≡ on_answer (λ (h : calls.Handed). said.handed h.number) a
+unfolding handed handed_record result_of said_by on_answer
+handed_said (gives h) t = refl
+handed_said (refused n) t = ap refused (t n refl)
 
 -- what it leaves, by the answer of its counter call
 handed_kept : (s : Store) (n : ℕ) → s ≡ store_of (state_of s) → (a : Answer State)
-    → (handed s (on_answer (λ (t : State). record { number = n; after = t }) a)).store ≡ store_of (kept (state_of s) a)
-unfolding handed on_answer kept
+    → result_unwrap_or (valued (λ h. h.store) (handed (on_answer (λ (t : State). record { number = n; after = t }) a))) s ≡ store_of (kept (state_of s) a)
+unfolding handed handed_record result_of on_answer kept
 handed_kept s n one (gives t) = refl
 handed_kept s n one (refused m) = one
 
 -- new
-pub new_made : (s : Store) → StoreShape s → well_store s ≡ true → let r = handed s (on_store s (calls.new_number full)) in Makes s (counts new) r.store (handed_given r.outcome r.number.0)
+pub new_made : (s : Store) → StoreShape s → well_store s ≡ true → let r = handed (on_store s (calls.new_number full)) in Makes s (counts new) (result_unwrap_or (valued (λ h. h.store) r) s) (handed_given (valued (λ h. h.number) r))
 unfolding after
 new_made s q w =
     let t = state_of s in
     rw (store.on_store_well s (calls.new_number full) w) record {
-      left = ap (λ (a : Answer calls.Handed). (handed s a).store) (new_is full t) ∙ handed_kept s t.counters.next (one_store s q w) (counter full t new);
-      gave = handed_said s (calls.new_number full t) ∙ sym (given_new full t);
+      left = ap (λ (a : Answer calls.Handed). result_unwrap_or (valued (λ (h : Handed). h.store) (handed a)) s) (new_is full t) ∙ handed_kept s t.counters.next (one_store s q w) (counter full t new);
+      gave = handed_said (calls.new_number full t) (new_told t) ∙ sym (given_new full t);
     }
 
 -- the other counter calls say nothing more
@@ -280,11 +288,11 @@ count_says_lem t (suc (suc (suc (suc (suc (suc tag)))))) n h k = absurd (omega a
 
 -- the other counter calls, by their tag
 pub count_made : (s : Store) (tag n : ℕ) → 1 ≤ tag → tag ≤ previous_tag → StoreShape s → well_store s ≡ true
-    → let r = counted_by s tag n in Makes s (counts (count_of tag n)) r.store (plain_given r.outcome)
+    → let r = counted_by s tag n in Makes s (counts (count_of tag n)) (result_unwrap_or r s) (plain_given (valued (λ t. tt) r))
 unfolding counted_by after given
 count_made s tag n h k q w =
     let a = counter full (state_of s) (count_of tag n) in
-    plain_makes s w (one_store s q w) (counts (count_of tag n)) (λ t. counter full t (count_of tag n)) a refl refl
+    plain_makes s w (one_store s q w) (counts (count_of tag n)) (λ t. counter full t (count_of tag n)) a refl (counter_told (state_of s) (count_of tag n)) refl
     (ap (λ (x : said.Said). on_answer (λ (t : State). x) a) (count_says_lem (state_of s) tag n h k))
 
 -- the state that a call leaves is well-formed again; the numbers of the files that an edit adds fit 64 bits

@@ -1,6 +1,7 @@
 -- Laws of a call that is made: the parts of its bytes, its tag, and its answer laid in lent room. Assumes nothing.
 use Prim.Native.Nat.{ℕ, zero, suc, ◌+◌, ◌<◌, ◌≤◌}
-use Rattle.std.specs.Prelude.{◌≡◌, Bool}
+use Rattle.std.specs.Prelude.{◌≡◌, Bool, Result, Ok, Err}
+use Rattle.std.specs.Result.{result_unwrap_or}
 use Rattle.std.proofs.Math.Path.{refl, sym, ap}
 use Rattle.std.proofs.Common.{◌∙◌, subst, length-drop, zero-add}
 use Rattle.std.proofs.Math.Bool.{true, false}
@@ -29,8 +30,8 @@ use Rattle.model_replay.specs.Held.{held_key}
 use Rattle.model_replay.specs.Recording.{edit_tag, size_tag, range_tag, count_tag, new_tag, previous_tag, handed_tag, asks_edit, asks_size, asks_range, asks_count, call_of, range_form, read_count, count_form, read_asked, asked_form}
 use Rattle.model_replay.specs.Takes.{Takes, never, takes, and_then, repeated, counted, tag_takes, key_takes, part_takes, edit_takes, count_takes, asked_takes}
 use Rattle.model_replay.proofs.TakesLaws.{Measures, key_measured, edit_measured, range_measured, count_measured}
-use Rattle.answers.specs.declared.Outcome.{Outcome}
-use Rattle.answers.specs.declared.Outcome.TheVariants.{Done, Refused}
+use Rattle.answers.specs.declared.Refusal.{Refusal}
+use Rattle.keys.specs.declared.FileNumber.{FileNumber}
 use Rattle.keys.specs.declared.Key.{Key}
 use Rattle.keys.specs.Key.{key_of, key_record}
 use Rattle.edit.specs.declared.Edit.{Edit}
@@ -39,7 +40,6 @@ use Rattle.pick_answer.specs.declared.Pick.{Pick}
 use Rattle.pick_answer.specs.declared.Picked.{Picked}
 use Rattle.pick_answer.specs.Picked.{pick_of}
 use Rattle.store.specs.declared.Store.{Store}
-use Rattle.store.specs.declared.Stored.{Stored}
 use Rattle.store.specs.Store.{state_of, well_store, on_store, stored, StoreShape}
 use Rattle.store_numbers.specs.declared.Handed.{Handed}
 use Rattle.store_numbers.specs.Numbering.{handed}
@@ -50,7 +50,7 @@ use Rattle.replay_scan.specs.RecordLaws.{takes_says, then_says, bytes_then, numb
 use Rattle.replay_given.specs.Given.{said_by, plain_given, handed_given, picked_given, given_bytes, longest_given, can_tell}
 use Rattle.replay_given.specs.GivenLaws.{handed_is, numbered_long, plain_long, given_long, can_tell_says}
 use Rattle.replay_call.specs.Call.{value_or, Begins, edit_record, edit_in, range_in, count_in, count_of, counted_by, asked_in, made_by, answered}
-use Rattle.replay_call.specs.MadeLaws.{Makes, MakesPick, edit_made, size_made, range_made, new_made, count_made}
+use Rattle.replay_call.specs.MadeLaws.{Makes, valued, MakesPick, edit_made, size_made, range_made, new_made, count_made}
 
 -- ---- one part after another
 module _ (src : List ℕ) (at : ℕ) where
@@ -258,27 +258,27 @@ module _ {src : List ℕ} {at t : ℕ} (b : Begins count_takes src at) (e : t �
       go zero q = absurd (h q)
       go (suc k) q = tag_value _ b e _ new (suc k) q ∙ numbered_value (number_begins h) (reuse ∷ mark ∷ last ∷ manifest ∷ previous ∷ []) k
 
--- what a counter call of a known tag leaves
-pub counted_is : (s : Store) (tag n k : ℕ) → tag ≡ k → stored s (on_store s (λ t. counter full t (count_of k n))) ≡ counted_by s tag n
+-- the result of a counter call of a known tag
+pub counted_is : (s : Store) (tag n k : ℕ) → tag ≡ k → stored (on_store s (λ t. counter full t (count_of k n))) ≡ counted_by s tag n
 unfolding counted_by
 counted_is s tag n k e = rw e
 
 -- ---- the answer in lent room
 -- the answer of an edit, or of a counter call but new, has room
-pub plain_fits : (o : Outcome) (room : List ℕ) → longest_given ≤ length room → 0 + length (given_bytes (plain_given o)) ≤ length room
+pub plain_fits : (o : Result Unit Refusal) (room : List ℕ) → longest_given ≤ length room → 0 + length (given_bytes (plain_given o)) ≤ length room
 plain_fits o room h = omega (arith, plain_long o)
 
 -- so has that of new
-pub handed_fits : (o : Outcome) (n : ℕ) (room : List ℕ) → longest_given ≤ length room → 0 + length (given_bytes (handed_given o n)) ≤ length room
+pub handed_fits : (o : Result FileNumber Refusal) (room : List ℕ) → longest_given ≤ length room → 0 + length (given_bytes (handed_given o)) ≤ length room
 unfolding said_by
-handed_fits Done n room h = omega (arith, numbered_long (given_bytes (handed_given Done n)) handed_tag number_long n (handed_is Done n refl))
-handed_fits (Refused m) n room h = plain_fits (Refused m) room h
+handed_fits (Ok n) room h = omega (arith, numbered_long (given_bytes (handed_given (Ok n))) handed_tag number_long n.0 (handed_is (Ok n) n refl))
+handed_fits (Err r) room h = plain_fits (Err r) room h
 
 -- and that of a pick that can be kept
-pub picked_fits : (o : Outcome) (c : Picked) (room : List ℕ) → can_tell o c ≡ true → longest_given ≤ length room → 0 + length (given_bytes (picked_given o c)) ≤ length room
+pub picked_fits : (o : Result Picked Refusal) (room : List ℕ) → can_tell o ≡ true → longest_given ≤ length room → 0 + length (given_bytes (picked_given o)) ≤ length room
 unfolding said_by
-picked_fits Done c room k h = omega (arith, given_long c (can_tell_says Done c refl k).0)
-picked_fits (Refused m) c room k h = plain_fits (Refused m) room h
+picked_fits (Ok c) room k h = omega (arith, given_long c (can_tell_says (Ok c) c refl k).0)
+picked_fits (Err r) room k h = plain_fits (Err r) room h
 
 -- the store that a call leaves and its answer, laid at the start of the room, are what code returns and leaves in it
 pub made_laid : (s : Store) (c : history.Call) (t : Store) (g : Given) (room out : List ℕ) (n : ℕ) → Makes s c t g → (n ≡ 0 + length (given_bytes g)) × (out ≡ put room 0 (given_bytes g))
@@ -292,22 +292,22 @@ made_laid s c t g room out n m h =
 -- ---- what code's calls return is made
 module _ (s : Store) (q : StoreShape s) (w : well_store s ≡ true) where
   -- an edit
-  pub edit_makes : (e : model.Edit) (x : Edit) (r : Stored) → x ≡ edit_record e → r ≡ stored s (on_store s (λ t. edit full t (edit_of x))) → Makes s (edits e) r.store (plain_given r.outcome)
+  pub edit_makes : (e : model.Edit) (x : Edit) (r : Result Store Refusal) → x ≡ edit_record e → r ≡ stored (on_store s (λ t. edit full t (edit_of x))) → Makes s (edits e) (result_unwrap_or r s) (plain_given (valued (λ t. tt) r))
   edit_makes e x r h k = rw (k, h) (edit_made s e q w)
 
   -- a size pick
-  pub size_makes : (m : ℕ) (r : Pick) → r ≡ pick_of s (on_store s (λ t. size_pick full t m)) → MakesPick s (picks_size m) r
+  pub size_makes : (m : ℕ) (r : Result Pick Refusal) → r ≡ pick_of (on_store s (λ t. size_pick full t m)) → MakesPick s (picks_size m) r
   size_makes m r k = rw k (size_made s m q w)
 
   -- a manual pick
-  pub range_makes : (m l : ℕ) (a b : key.Key) (x y : Key) (r : Pick) → x ≡ key_record (held_key full a) → y ≡ key_record (held_key full b)
-      → r ≡ pick_of s (on_store s (λ t. manual_pick full t m l (key_of x) (key_of y))) → MakesPick s (picks_range m l a b) r
+  pub range_makes : (m l : ℕ) (a b : key.Key) (x y : Key) (r : Result Pick Refusal) → x ≡ key_record (held_key full a) → y ≡ key_record (held_key full b)
+      → r ≡ pick_of (on_store s (λ t. manual_pick full t m l (key_of x) (key_of y))) → MakesPick s (picks_range m l a b) r
   range_makes m l a b x y r h i k = rw (k, h, i) (range_made s m l a b q w)
 
   -- new
-  pub new_makes : (r : Handed) → r ≡ handed s (on_store s (calls.new_number full)) → Makes s (counts new) r.store (handed_given r.outcome r.number.0)
+  pub new_makes : (r : Result Handed Refusal) → r ≡ handed (on_store s (calls.new_number full)) → Makes s (counts new) (result_unwrap_or (valued (λ h. h.store) r) s) (handed_given (valued (λ h. h.number) r))
   new_makes r k = rw k (new_made s q w)
 
   -- another counter call
-  pub count_makes : (tag n : ℕ) (r : Stored) → (1 ≤ tag) × (tag ≤ previous_tag) → r ≡ counted_by s tag n → Makes s (counts (count_of tag n)) r.store (plain_given r.outcome)
+  pub count_makes : (tag n : ℕ) (r : Result Store Refusal) → (1 ≤ tag) × (tag ≤ previous_tag) → r ≡ counted_by s tag n → Makes s (counts (count_of tag n)) (result_unwrap_or r s) (plain_given (valued (λ t. tt) r))
   count_makes tag n r h k = rw k (count_made s tag n h.0 h.1 q w)

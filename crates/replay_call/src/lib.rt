@@ -16,12 +16,13 @@ ghost use Rattle.replay_given.specs.Given.{longest_given};
 ghost use Rattle.replay_call.specs.Call.{value_or, Begins, filled, pointing_record, deletion_record, addition_record, log_record, edit_record, edit_in, count_in, counted_by, asked_in, range_in, made_by, answered};
 ghost use Rattle.edit.specs.Edit.{blank_pointing, blank_deletion, blank_addition};
 
-use edit::{Addition, Deletion, Edit, NewLog, Pointing};
+use answers::Refusal;
+use edit::{Addition, Deletion, Edit, Pointing};
 use keys::{FileNumber, Key, SequenceNumber};
 use replay_form::Record;
 use snapshot_parse::KeyAt;
 use snapshot_parts::Snapshot;
-use store::{Store, Stored};
+use store::Store;
 
 // The store after a call, and how long the bytes of its answer are.
 #[derive(Clone, Copy)]
@@ -49,14 +50,8 @@ fn key_at(src: &[u8], at: usize) -> KeyAt
     }
     let mut bytes = [0u8; Key::ROOM];
     keys::copy_into(&src[start..end], &mut bytes);
-    let key = Key {
-        bytes: bytes,
-        len: n,
-    };
-    KeyAt {
-        key: key,
-        next: end,
-    }
+    let key = Key { bytes, len: n };
+    KeyAt { key, next: end }
 }
 
 // The first n pointers of an edit, from a place on. Requires: they are there, and there is room for them.
@@ -141,16 +136,16 @@ fn additions_at(src: &[u8], at: usize, n: usize) -> [Addition; Edit::ADDITIONS]
 }
 
 // The log number of an edit, if it has one. Requires: its section is there.
-fn log_at(src: &[u8], at: usize) -> NewLog
+fn log_at(src: &[u8], at: usize) -> Option<FileNumber>
     requires { Begins log_takes src.now at }
     ensures { result ≡ log_record (value_or none (log_form.read (drop at src.now))) }
 {
     let n = snapshot_parse::get_number(src, at, Snapshot::COUNT);
     if n == 0 {
-        return NewLog::Keeps;
+        return None;
     }
     let number = snapshot_parse::get_number(src, at + Snapshot::COUNT, Snapshot::NUMBER);
-    NewLog::Becomes(FileNumber(number))
+    Some(FileNumber(number))
 }
 
 // The edit at a place. Requires: one is there.
@@ -169,13 +164,13 @@ fn edit_at(src: &[u8], at: usize) -> Edit
     let c = replay_scan::pass_section(src, b.at, Snapshot::NUMBER + Snapshot::KEYS, 2);
     let log = log_at(src, c.at);
     Edit {
-        pointings: pointings,
+        pointings,
         pointing_count: n,
-        deletions: deletions,
+        deletions,
         deletion_count: m,
-        additions: additions,
+        additions,
         addition_count: k,
-        log: log,
+        log,
     }
 }
 
@@ -187,13 +182,15 @@ fn make_edit(s: Store, src: &[u8], at: usize, room: &mut [u8]) -> Made
     ensures { (result ≡ made_by s (edits (edit_in (drop at src.now)))) × (room.new ≡ answered s (edits (edit_in (drop at src.now))) room.old) }
 {
     let e = edit_at(src, at);
-    let r = edit_apply::apply(s, e);
-    let o = r.outcome;
-    let n = replay_given::put_plain(room, 0, o);
-    let t = r.store;
-    Made {
-        store: t,
-        length: n,
+    match edit_apply::apply(s, e) {
+        Ok(store) => Made {
+            store,
+            length: replay_given::put_plain(room, 0, Ok(())),
+        },
+        Err(r) => Made {
+            store: s,
+            length: replay_given::put_plain(room, 0, Err(r)),
+        },
     }
 }
 
@@ -202,13 +199,15 @@ fn make_size(s: Store, maximum: u64, room: &mut [u8]) -> Made
     requires { (well_store s ≡ true) × (longest_given ≤ length room.old) }
     ensures { (result ≡ made_by s (picks_size maximum)) × (room.new ≡ answered s (picks_size maximum) room.old) }
 {
-    let r = pick::pick_compaction(s, maximum);
-    let o = r.outcome;
-    let n = replay_given::put_picked(room, 0, o, r.picked);
-    let t = r.store;
-    Made {
-        store: t,
-        length: n,
+    match pick::pick_compaction(s, maximum) {
+        Ok(p) => Made {
+            store: p.store,
+            length: replay_given::put_picked(room, 0, Ok(p.picked)),
+        },
+        Err(r) => Made {
+            store: s,
+            length: replay_given::put_picked(room, 0, Err(r)),
+        },
     }
 }
 
@@ -220,18 +219,20 @@ fn make_range(s: Store, maximum: u64, src: &[u8], at: usize, room: &mut [u8]) ->
     let level = snapshot_parse::get_number(src, at, Snapshot::NUMBER);
     let start = key_at(src, at + Snapshot::NUMBER);
     let stop = key_at(src, start.next);
-    let r = pick::compact_range(s, maximum, level as usize, start.key, stop.key);
-    let o = r.outcome;
-    let n = replay_given::put_picked(room, 0, o, r.picked);
-    let t = r.store;
-    Made {
-        store: t,
-        length: n,
+    match pick::compact_range(s, maximum, level as usize, start.key, stop.key) {
+        Ok(p) => Made {
+            store: p.store,
+            length: replay_given::put_picked(room, 0, Ok(p.picked)),
+        },
+        Err(r) => Made {
+            store: s,
+            length: replay_given::put_picked(room, 0, Err(r)),
+        },
     }
 }
 
 // Makes a counter call but new. Requires: the tag is one of those.
-fn counted(s: Store, tag: u64, n: u64) -> Stored
+fn counted(s: Store, tag: u64, n: u64) -> Result<Store, Refusal>
     requires { (1 ≤ tag) × (tag ≤ previous_tag) }
     ensures { result ≡ counted_by s tag n }
 {
@@ -257,23 +258,27 @@ fn make_count(s: Store, src: &[u8], at: usize, room: &mut [u8]) -> Made
 {
     let tag = snapshot_parse::get_number(src, at, Snapshot::BYTE);
     if tag == Record::NEW {
-        let h = store_numbers::new_file_number(s);
-        let o = h.outcome;
-        let n = replay_given::put_handed(room, 0, o, h.number);
-        let t = h.store;
-        return Made {
-            store: t,
-            length: n,
+        return match store_numbers::new_file_number(s) {
+            Ok(h) => Made {
+                store: h.store,
+                length: replay_given::put_handed(room, 0, Ok(h.number)),
+            },
+            Err(r) => Made {
+                store: s,
+                length: replay_given::put_handed(room, 0, Err(r)),
+            },
         };
     }
     let number = snapshot_parse::get_number(src, at + Snapshot::BYTE, Snapshot::NUMBER);
-    let r = counted(s, tag, number);
-    let o = r.outcome;
-    let n = replay_given::put_plain(room, 0, o);
-    let t = r.store;
-    Made {
-        store: t,
-        length: n,
+    match counted(s, tag, number) {
+        Ok(store) => Made {
+            store,
+            length: replay_given::put_plain(room, 0, Ok(())),
+        },
+        Err(r) => Made {
+            store: s,
+            length: replay_given::put_plain(room, 0, Err(r)),
+        },
     }
 }
 
