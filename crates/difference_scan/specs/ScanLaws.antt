@@ -13,7 +13,7 @@ use Rattle.lemmas.specs.Laying.{put_next}
 use Rattle.model.specs.Snapshot.{same_bytes, byte_long}
 use Rattle.model.specs.DifferenceBytes.{left_kind, right_kind, changed_kind}
 use Rattle.difference_scan.specs.declared.Kind.{Kind}
-use Rattle.difference_scan.specs.declared.Kind.TheVariants.{Left, Right, Changed, Same}
+use Rattle.difference_scan.specs.declared.Kind.TheVariants.{Left, Right, Changed}
 use Rattle.difference_scan.specs.Scan.{after_part, part_bytes, rise_long, rise_of, head, tail, left_entry, right_entry, same_kind, byte_of, goes_first, kind_by, kind_at, entry_of}
 
 -- ---- places

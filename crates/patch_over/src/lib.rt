@@ -45,7 +45,14 @@ fn put_piece(out: &mut [u8], at: usize, src: &[u8]) -> Option<usize>
 }
 
 // Writes what a turn leaves, if it fits: the part x of the snapshot, or what the entry y brings. Requires: the place is within the output.
-fn put_over(out: &mut [u8], at: usize, kind: Kind, pointer: bool, x: &[u8], y: &[u8]) -> Option<Piece>
+fn put_over(
+    out: &mut [u8],
+    at: usize,
+    kind: Kind,
+    pointer: bool,
+    x: &[u8],
+    y: &[u8],
+) -> Option<Piece>
     requires { at ≤ length out.old }
     ensures { MatchOption result (TooLong out.old at (join (piece_of pointer (byte_of kind) x.now y.now)) out.new) (λ r. Fitted out.old at (join (piece_of pointer (byte_of kind) x.now y.now)) out.new r.next × (r.count ≡ length (piece_of pointer (byte_of kind) x.now y.now))) }
 {

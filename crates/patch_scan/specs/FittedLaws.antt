@@ -1,7 +1,6 @@
 -- Laws of bytes that are written as far as the output has room. Assumes nothing.
-use Rattle.std.specs.Prelude.{ℕ, ◌+◌, ◌≤◌, ◌≡◌, List, [], ◌∷◌, length, ◌<◌, refl, Bool, true, false, leb}
-use Rattle.std.proofs.Common.{ap, ◌∙◌, append-nil, sym, arith, le-leb, leb-true, leb-false}
-use Rattle.lemmas.specs.Order.{clash}
+use Rattle.std.specs.Prelude.{ℕ, ◌+◌, ◌≤◌, ◌≡◌, List, [], ◌∷◌, length}
+use Rattle.std.proofs.Common.{ap, ◌∙◌, append-nil}
 use Rattle.lemmas.specs.Lists.{join}
 use Rattle.lemmas.specs.Slices.{put, length_put}
 use Rattle.patch_scan.specs.Over.{Fitted}
