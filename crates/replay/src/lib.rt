@@ -16,7 +16,7 @@ use snapshot_parts::Snapshot;
 use store::Store;
 
 // The first call whose answer differs.
-#[derive(Clone, Copy)]
+#[derive(Clone, Copy, PartialEq, Eq)]
 pub struct Difference {
     // Its place in the whole recording, from 0.
     pub place: u64,
@@ -29,7 +29,7 @@ pub struct Difference {
 }
 
 // What a replay comes to.
-#[derive(Clone, Copy)]
+#[derive(Clone, Copy, PartialEq, Eq)]
 pub enum Played {
     // Every answer is the recorded one: the length of the final snapshot, which is in the lent output.
     Ended(usize),
