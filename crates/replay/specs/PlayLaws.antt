@@ -39,7 +39,8 @@ use Rattle.store.specs.StoreLaws.{held, held_shape, held_well, well_says}
 use Rattle.replay_given.specs.Given.{given_bytes}
 use Rattle.replay_call.specs.Call.{value_or, asked_in, made_by}
 use Rattle.replay_call.specs.MadeLaws.{one_store, made_formed}
-use Rattle.replay.specs.declared.Halt.{Halt}
+use Rattle.replay.specs.declared.Stop.{Stop}
+use Rattle.replay.specs.declared.Halt.TheVariants as halt
 use Rattle.replay.specs.Replaying.{maximum_at, place_at, count_at, first_at, answer_from, held_calls, held_place, recorded_at, played_from, Halts, Plays}
 
 -- the settings and the count of a record, where code reads them
@@ -247,14 +248,14 @@ module _ (bs : List ℕ) (b : are_bytes bs ≡ true) (s : Store) (w : well_store
         }
 
     -- it is another: so the replay halts here
-    pub stands_other : (k : i < length r.calls) → let n = stands_next k in (halt : Halt) (room : List ℕ)
+    pub stands_other : (k : i < length r.calls) → let n = stands_next k in (here : Stop) (room : List ℕ)
         → same_bytes (take n.given_long (drop (at + n.asked) bs)) (given_bytes (given full (state_of t) (call_of r.settings.maximum (asked_in (drop at bs))))) ≡ false
-        → halt.differs ≡ true → halt.calls ≡ i → halt.from ≡ at + n.asked → halt.to ≡ at + n.asked + n.given_long
-        → halt.length ≡ length (given_bytes (given full (state_of t) (call_of r.settings.maximum (asked_in (drop at bs)))))
-        → take halt.length room ≡ given_bytes (given full (state_of t) (call_of r.settings.maximum (asked_in (drop at bs))))
-        → Plays s bs halt room
+        → here.calls ≡ i → here.from ≡ at + n.asked → here.to ≡ at + n.asked + n.given_long
+        → here.length ≡ length (given_bytes (given full (state_of t) (call_of r.settings.maximum (asked_in (drop at bs)))))
+        → take here.length room ≡ given_bytes (given full (state_of t) (call_of r.settings.maximum (asked_in (drop at bs))))
+        → Plays s bs (halt.Differs here) room
     unfolding Plays played_from Halts recorded_at held_calls held_place answer_from
-    stands_other k halt room e d f g j l q =
+    stands_other k here room e f g j l q =
         let n = stands_next k in
         let v = seen k n in
         let m = r.settings.maximum in
@@ -278,9 +279,8 @@ module _ (bs : List ℕ) (b : are_bytes bs ≡ true) (s : Store) (w : well_store
         ∙ st.placed 0
         ∙ ap (λ (x : List Recorded). answer_from at x 0) v.all
         ∙ ap (λ (x : ℕ). at + x) v.asked_long in
-        subst (λ (x : Outcome State). Halts bs x halt room) (sym comes) (
-          d,
-          ap (λ (x : Option Recording). held_place x + halt.calls) h ∙ ap (λ (x : ℕ). p + x) f,
+        subst (λ (x : Outcome State). Halts bs x (halt.Differs here) room) (sym comes) (
+          ap (λ (x : Option Recording). held_place x + here.calls) h ∙ ap (λ (x : ℕ). p + x) f,
           g ∙ sym from,
           j ∙ (λ x. sym from x + sym v.answer_long x),
           l,
@@ -288,15 +288,15 @@ module _ (bs : List ℕ) (b : are_bytes bs ≡ true) (s : Store) (w : well_store
         )
 
     -- no call is left: it has ended
-    pub stands_last : i ≡ length r.calls → (halt : Halt) (room : List ℕ) → halt.differs ≡ false → halt.store ≡ t → Plays s bs halt room
+    pub stands_last : i ≡ length r.calls → (room : List ℕ) → Plays s bs (halt.Ended t) room
     unfolding Plays played_from Halts replayed
-    stands_last e halt room d q =
+    stands_last e room =
         let m = r.settings.maximum in
         let p = r.settings.place in
         let none_left : st.later ≡ [] = empty st.later (times_long recorded_form.read (length r.calls - i) (drop at bs) (record { value = st.later; rest = [] }) st.reads ∙ omega arith) in
         let comes : played_from (read_recording bs) (state_of s) ≡ ended (state_of t)
         = ap (λ (x : Option Recording). played_from x (state_of s)) h ∙ sym st.same ∙ ap (replayed full m (p + i) (state_of t)) none_left in
-        subst (λ (x : Outcome State). Halts bs x halt room) (sym comes) (d, q ∙ one_store t st.shape st.well)
+        subst (λ (x : Outcome State). Halts bs x (halt.Ended t) room) (sym comes) (one_store t st.shape st.well)
       where
         empty : {A : Type 0} (l : List A) → length l ≡ 0 → l ≡ []
         empty [] n = refl

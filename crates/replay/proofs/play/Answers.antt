@@ -1,5 +1,5 @@
 -- `play` meets its contract: each turn makes one call more, or stops at an answer that differs. Assumes nothing.
-use Rattle.std.proofs.Common.{◌≡◌, refl, true, arith}
+use Rattle.std.proofs.Common.{◌≡◌, true, arith}
 use Rattle.std.proofs.Math.Pow.{are_bytes}
 use Rattle.lemmas.specs.AreBytes.{bytes_all}
 use Rattle.store.proofs.Shape.{shape}
@@ -46,4 +46,4 @@ pub loop-i-preserved : goal.loop-i-preserved
 loop-i-preserved c = play_turns c.loop-i.invariant (omega arith) c.pass_asked-asked.ensures.0 c.pass_given-answer.ensures.0 c.make-made.ensures c.same.ensures c.if-not-same.false
 
 pub returns : goal.returns
-returns c = let l = c.loop-i.invariant in play_ends l _ (omega (arith, l.stands.few, l.count)) refl refl
+returns c = let l = c.loop-i.invariant in play_ends l (omega (arith, l.stands.few, l.count))
