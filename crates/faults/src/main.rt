@@ -2,18 +2,15 @@
 // after a semicolon what the call left: lent output, memory, the store's counts. crates/faults/stdin begins with the lines that a table may have.
 #![tactic(auto)]
 
-use answers::{Counted, Outcome, YesNo};
-use ask_find::Found;
-use ask_store::Leveled;
+use answers::Refusal;
 use compact_base::Asked;
-use compact_cutter::Cutter;
+use compact_cutter::{Cut, Cutter};
 use counters::Counters;
 use edit::{Deletion, Edit};
 use keys::{FileNumber, Key, SequenceNumber, UserKey};
 use pick_answer::{Cause, Picked};
 use records::{FileRecord, Level, Version};
 use script_parts::Run;
-use snapshot_write::Written;
 use store::{Pointer, Store};
 
 // What is at hand: records that a store, a picked answer and a list share, the counts of levels, pointers, the memory of base-level questions, and numbers by their place among the names of `set`.
@@ -34,13 +31,8 @@ struct Table {
     count: u64,
 }
 
-// The first part of an answer: a number (yes is 1, no is 0), that there is none, or the number of the refusal.
-#[derive(Clone, Copy)]
-enum FirstPart {
-    Number(u64),
-    Nothing,
-    Refused(u8),
-}
+// The first part of an answer: a number (yes is 1, no is 0), that there is none, or the refusal.
+type Told = Result<Option<u64>, Refusal>;
 
 // ---- words
 
@@ -90,35 +82,12 @@ fn user(line: &[u8], i: usize) -> UserKey {
     raw
 }
 
-// Whether a run of a text is a word of a line.
-fn is_name(names: &[u8], from: usize, to: usize, line: &[u8], w: Run) -> bool {
-    if names.len() < to {
-        return false;
-    }
-    if to < from {
-        return false;
-    }
-    script_words::is_word(line, w.from, w.to, &names[from..to])
-}
-
-// Which of the names the i-th word is, from 0; how many names there are, or more, where it is none.
-fn name(names: &[u8], line: &[u8], i: usize) -> usize {
+// Which of the names the i-th word is, from 0.
+fn name(names: &[u8], line: &[u8], i: usize) -> Option<usize> {
     let w = word(line, i);
-    let n = names.len();
-    let mut k: usize = 0;
-    let mut at: usize = 0;
-    while at < n {
-        let end = script_words::place_of(names, at, n, b' ');
-        if is_name(names, at, end, line, w) {
-            return k;
-        }
-        if n <= end {
-            return n;
-        }
-        at = end + 1;
-        k += 1;
-    }
-    n
+    names
+        .split(|b| *b == b' ')
+        .position(|n| script_words::is_word(line, w.from, w.to, n))
 }
 
 // ---- what is at hand
@@ -126,34 +95,31 @@ fn name(names: &[u8], line: &[u8], i: usize) -> usize {
 // A fresh store and blank records, no first input, M 2097152, fresh memories, an edit with no deletions.
 fn fresh() -> Hand {
     let s = store::fresh_store();
-    let files = s.files;
-    let counts = s.counts;
-    let pointers = s.pointers;
-    let asked = compact_base::nothing_asked();
     let mut raw = [0u64; 15];
     raw[0] = 2;
     raw[7] = 2097152;
+    let files = s.files;
+    let counts = s.counts;
+    let pointers = s.pointers;
     Hand {
-        files: files,
-        counts: counts,
-        pointers: pointers,
-        asked: asked,
-        raw: raw,
+        files,
+        counts,
+        pointers,
+        asked: compact_base::nothing_asked(),
+        raw,
     }
 }
 
 // With one number set: the counters, the parts of a picked answer, the cutter's memory, how many deletions the edit has.
 fn with_number(h: Hand, line: &[u8]) -> Hand {
-    let i = name(
-        b"next manifest seq log prev level manual maximum first second grand seen place passed own",
-        line,
-        1,
-    );
-    if 15 <= i {
-        return h;
-    }
+    let names =
+        b"next manifest seq log prev level manual maximum first second grand seen place passed own";
     let mut t = h;
-    t.raw[i] = number(line, 2);
+    if let Some(i) = name(names, line, 1) {
+        if i < 15 {
+            t.raw[i] = number(line, 2);
+        }
+    }
     t
 }
 
@@ -216,15 +182,14 @@ fn counters_of(raw: [u64; 15]) -> Counters {
 
 // The store.
 fn store_of(h: Hand) -> Store {
-    let raw = h.raw;
     let files = h.files;
     let counts = h.counts;
     let pointers = h.pointers;
     Store {
-        files: files,
-        counts: counts,
-        pointers: pointers,
-        counters: counters_of(raw),
+        files,
+        counts,
+        pointers,
+        counters: counters_of(h.raw),
     }
 }
 
@@ -240,12 +205,11 @@ fn cause_of(manual: u64) -> Cause {
 fn picked_of(h: Hand) -> Picked {
     let raw = h.raw;
     let files = h.files;
-    let cause = cause_of(raw[6]);
     Picked {
         level: raw[5] as usize,
-        cause: cause,
+        cause: cause_of(raw[6]),
         maximum: raw[7],
-        files: files,
+        files,
         first: raw[8] as usize,
         second: raw[9] as usize,
         grand: raw[10] as usize,
@@ -264,7 +228,6 @@ fn cutter_of(h: Hand) -> Cutter {
 
 // An edit whose first two deletions are 4:8 and 4:9, and that says it has so many.
 fn edit_of(h: Hand) -> Edit {
-    let raw = h.raw;
     let mut e = Edit::empty()
         .delete(Deletion {
             level: 4,
@@ -274,62 +237,32 @@ fn edit_of(h: Hand) -> Edit {
             level: 4,
             number: FileNumber(9),
         });
-    e.deletion_count = raw[14] as usize;
+    e.deletion_count = h.raw[14] as usize;
     e
 }
 
 // ---- answers
 
-// What a call that was not refused tells, or the refusal.
-fn done(o: Outcome, n: u64) -> FirstPart {
-    match o {
-        Outcome::Done => FirstPart::Number(n),
-        Outcome::Refused(x) => FirstPart::Refused(x),
-    }
-}
-
-// Yes, no, or the refusal.
-fn yes_no(t: YesNo) -> FirstPart {
-    match t {
-        YesNo::Yes => FirstPart::Number(1),
-        YesNo::No => FirstPart::Number(0),
-        YesNo::Refused(n) => FirstPart::Refused(n),
-    }
-}
-
-// How many places were filled, or the refusal.
-fn filled(c: Counted) -> FirstPart {
-    match c {
-        Counted::Filled(n) => FirstPart::Number(n as u64),
-        Counted::Refused(n) => FirstPart::Refused(n),
-    }
-}
-
-// How many bytes were written, or the refusal.
-fn written(w: Written) -> FirstPart {
-    match w {
-        Written::Bytes(n) => FirstPart::Number(n as u64),
-        Written::Refused(n) => FirstPart::Refused(n),
-    }
+// A count, or the refusal.
+fn counted(r: Result<usize, Refusal>) -> Told {
+    r.map(|n| Some(n as u64))
 }
 
 // The first part of an answer.
-fn put_told(out: &mut [u8], at: usize, t: FirstPart) -> usize {
+fn put_told(out: &mut [u8], at: usize, t: Told) -> usize {
     match t {
-        FirstPart::Number(n) => script_lines::put_number(out, at, n),
-        FirstPart::Nothing => script_lines::put(out, at, b"none"),
-        FirstPart::Refused(n) => script_lines::put_refused(out, at, n),
+        Ok(Some(n)) => script_lines::put_number(out, at, n),
+        Ok(None) => script_lines::put(out, at, b"none"),
+        Err(r) => script_lines::put_refused(out, at, r),
     }
 }
 
 // What the call left, after a semicolon.
 fn put_left(out: &mut [u8], start: usize, left: &[u64]) -> usize {
     let mut at = script_lines::put_byte(out, start, b';');
-    let mut i: usize = 0;
-    while i < left.len() {
+    for n in left {
         at = script_lines::put_byte(out, at, b' ');
-        at = script_lines::put_number(out, at, left[i]);
-        i += 1;
+        at = script_lines::put_number(out, at, *n);
     }
     at
 }
@@ -343,116 +276,93 @@ fn print(out: &mut [u8], at: usize) {
 }
 
 // Prints an answer.
-fn tell(t: FirstPart) {
+fn tell(t: Told) {
     let mut out = io::buffer();
     let at = put_told(&mut out, 0, t);
     print(&mut out, at);
 }
 
 // Prints an answer and what the call left.
-fn tell_left(t: FirstPart, left: &[u64]) {
+fn tell_left(t: Told, left: &[u64]) {
     let mut out = io::buffer();
     let mut at = put_told(&mut out, 0, t);
     at = put_left(&mut out, at, left);
     print(&mut out, at);
 }
 
-// Prints an answer and the five places of an output.
-fn tell_five(t: FirstPart, out: [u64; 5]) {
-    tell_left(t, &out)
-}
-
 // ---- calls on the store
 
 // A new file number.
 fn new_number(h: Hand) {
-    let r = store_numbers::new_file_number(store_of(h));
-    let o = r.outcome;
-    let n = r.number;
-    tell(done(o, n.0))
+    tell(store_numbers::new_file_number(store_of(h)).map(|r| Some(r.number.0)))
 }
 
 // An empty edit: whether it is accepted, and the counts of levels 0 to 2 after it.
 fn apply(h: Hand) {
     let r = edit_apply::apply(store_of(h), Edit::empty());
-    let o = r.outcome;
-    let s = r.store;
-    let counts = s.counts;
+    let counts = match r {
+        Ok(s) => s.counts,
+        Err(_) => h.counts,
+    };
     let left = [counts[0] as u64, counts[1] as u64, counts[2] as u64];
-    tell_left(done(o, 1), &left)
+    tell_left(r.map(|_| Some(1)), &left)
 }
 
 // How many bytes at the end of a room are as they were lent: 7.
-fn untouched(room: [u8; 256]) -> usize {
-    let mut n: usize = 0;
-    while n < 256 {
-        if room[255 - n] != 7 {
-            return n;
-        }
-        n += 1;
-    }
-    n
+fn untouched(room: &[u8]) -> usize {
+    room.iter().rev().take_while(|b| **b == 7).count()
 }
 
 // The snapshot into the first bytes of a room: its length, how many bytes of the room are as they were, and the first byte.
 fn write(h: Hand, bytes: usize) {
     let mut room = [7u8; 256];
     let end = bytes % 257;
-    let w = snapshot_write::write(store_of(h), &mut room[0..end]);
-    let left = [untouched(room) as u64, octets::wide(room[0])];
-    tell_left(written(w), &left)
+    let w = snapshot_write::write(store_of(h), &mut room[..end]);
+    let left = [untouched(&room) as u64, u64::from(room[0])];
+    tell_left(counted(w), &left)
 }
 
 // Live files into the first of five places.
 fn live(h: Hand, places: usize) {
     let mut out = [77u64; 5];
     let end = places % 6;
-    let c = ask_store::live_files(store_of(h), &mut out[0..end]);
-    tell_five(filled(c), out)
+    let c = ask_store::live_files(store_of(h), &mut out[..end]);
+    tell_left(counted(c), &out)
 }
 
 // A base-level question; then the memory: whether a key was asked, how long it is, its first byte.
 fn base(h: Hand, line: &[u8]) {
     let r = compact_base::is_base_level_for(store_of(h), count(line, 2), h.asked, user(line, 3));
-    let o = r.outcome;
-    let m = r.memory;
-    let u = m.user;
-    let bytes = u.bytes;
-    let left = [m.any as u64, u.len as u64, octets::wide(bytes[0])];
-    tell_left(done(o, r.base as u64), &left)
+    let m = match r {
+        Ok(b) => b.memory,
+        Err(_) => h.asked,
+    };
+    let left = [m.any as u64, m.user.len as u64, u64::from(m.user.bytes[0])];
+    tell_left(r.map(|b| Some(b.base as u64)), &left)
 }
 
 // The level of a memory table.
 fn mem(h: Hand, line: &[u8]) {
     let r = ask_store::pick_memtable_output_level(store_of(h), user(line, 2), user(line, 3));
-    match r {
-        Leveled::Level(n) => tell(FirstPart::Number(n as u64)),
-        Leveled::Refused(n) => tell(FirstPart::Refused(n)),
-    }
+    tell(counted(r))
 }
 
 // ---- calls on a list
 
 // `find_file` in the first records.
 fn find(h: Hand, line: &[u8]) {
-    let files = h.files;
     let n = count(line, 3) % 257;
-    let r = lend::find_file_of(count(line, 2), files, n, key(line, 4));
-    match r {
-        Found::At(i) => tell(FirstPart::Number(i as u64)),
-        Found::Nowhere => tell(FirstPart::Nothing),
-        Found::Refused(x) => tell(FirstPart::Refused(x)),
-    }
+    let r = lend::find_file_of(count(line, 2), h.files, n, key(line, 4));
+    tell(r.map(|found| found.map(|i| i as u64)))
 }
 
 // A lookup in the first records, into the first of five places.
 fn lookup(h: Hand, line: &[u8]) {
-    let files = h.files;
     let n = count(line, 3) % 257;
     let mut out = [77u64; 5];
     let end = count(line, 5) % 6;
-    let c = lend::look_up_of(count(line, 2), files, n, key(line, 4), &mut out[0..end]);
-    tell_five(filled(c), out)
+    let c = lend::look_up_of(count(line, 2), h.files, n, key(line, 4), &mut out[..end]);
+    tell_left(counted(c), &out)
 }
 
 // ---- calls on the picked answer
@@ -466,41 +376,35 @@ fn put_pair(out: &mut [u8], start: usize, level: usize, number: u64) -> usize {
 }
 
 // The first five deletions.
-fn put_deletions(out: &mut [u8], start: usize, all: [Deletion; 256]) -> usize {
+fn put_deletions(out: &mut [u8], start: usize, all: &[Deletion]) -> usize {
     let mut at = start;
-    let mut i: usize = 0;
-    while i < 5 {
-        let d = all[i];
+    for d in all.iter().take(5) {
         at = put_pair(out, at, d.level, d.number.0);
-        i += 1;
     }
     at
 }
 
 // The places of both columns.
-fn put_columns(out: &mut [u8], start: usize, levels: [usize; 4], numbers: [u64; 4]) -> usize {
+fn put_columns(out: &mut [u8], start: usize, levels: &[usize], numbers: &[u64]) -> usize {
     let mut at = script_lines::put_byte(out, start, b';');
-    let mut i: usize = 0;
-    while i < 4 {
-        at = put_pair(out, at, levels[i], numbers[i]);
-        i += 1;
+    for (level, number) in levels.iter().zip(numbers) {
+        at = put_pair(out, at, *level, *number);
     }
     at
 }
 
 // Prints an answer, how many deletions an edit says it has, and the first five of them.
-fn tell_deletions(t: FirstPart, e: Edit) {
-    let all = e.deletions;
+fn tell_deletions(t: Told, e: Edit) {
     let left = [e.deletion_count as u64];
     let mut out = io::buffer();
     let mut at = put_told(&mut out, 0, t);
     at = put_left(&mut out, at, &left);
-    at = put_deletions(&mut out, at, all);
+    at = put_deletions(&mut out, at, &e.deletions);
     print(&mut out, at)
 }
 
 // Prints an answer and both columns.
-fn tell_columns(t: FirstPart, levels: [usize; 4], numbers: [u64; 4]) {
+fn tell_columns(t: Told, levels: &[usize], numbers: &[u64]) {
     let mut out = io::buffer();
     let mut at = put_told(&mut out, 0, t);
     at = put_columns(&mut out, at, levels, numbers);
@@ -509,9 +413,9 @@ fn tell_columns(t: FirstPart, levels: [usize; 4], numbers: [u64; 4]) {
 
 // The deletions of its inputs into the edit.
 fn deletions(h: Hand) {
-    let r = compact_deletions::add_input_deletions(picked_of(h), edit_of(h));
-    let o = r.outcome;
-    tell_deletions(done(o, 1), r.edit)
+    let e = edit_of(h);
+    let r = compact_deletions::add_input_deletions(picked_of(h), e);
+    tell_deletions(r.map(|_| Some(1)), r.unwrap_or(e))
 }
 
 // The deletions of its inputs into the first places of two columns of four.
@@ -520,28 +424,30 @@ fn columns(h: Hand, levels: usize, numbers: usize) {
     let mut ns = [99u64; 4];
     let a = levels % 5;
     let b = numbers % 5;
-    let c = compact_deletions::input_deletions(picked_of(h), &mut ls[0..a], &mut ns[0..b]);
-    tell_columns(filled(c), ls, ns)
+    let c = compact_deletions::input_deletions(picked_of(h), &mut ls[..a], &mut ns[..b]);
+    tell_columns(counted(c), &ls, &ns)
 }
 
-// An answer of the cutter, and its memory.
-fn tell_step(t: FirstPart, m: Cutter) {
+// Prints an answer of the cutter, and its memory: that before the key, if it was refused.
+fn tell_step(r: Result<Cut, Refusal>, before: Cutter) {
+    let m = match r {
+        Ok(c) => c.memory,
+        Err(_) => before,
+    };
     let left = [m.seen as u64, m.place as u64, m.count];
-    tell_left(t, &left)
+    tell_left(r.map(|c| Some(c.cut as u64)), &left)
 }
 
 // Whether to stop before a key, on memory that is lent.
 fn cut(h: Hand, k: Key) {
-    let r = lend::stopped(picked_of(h), cutter_of(h), k);
-    let t = r.told;
-    tell_step(yes_no(t), r.memory)
+    let m = cutter_of(h);
+    tell_step(lend::stopped(picked_of(h), m, k), m)
 }
 
 // The same by value.
 fn step(h: Hand, k: Key) {
-    let r = compact_cutter::step(picked_of(h), cutter_of(h), k);
-    let o = r.outcome;
-    tell_step(done(o, r.cut as u64), r.memory)
+    let m = cutter_of(h);
+    tell_step(compact_cutter::step(picked_of(h), m, k), m)
 }
 
 // ---- lines
@@ -549,7 +455,7 @@ fn step(h: Hand, k: Key) {
 // A call on the store.
 fn of_store(h: Hand, call: usize, line: &[u8]) {
     if call == 0 {
-        return tell(FirstPart::Number(store::is_well_formed(store_of(h)) as u64));
+        return tell(Ok(Some(store::is_well_formed(store_of(h)) as u64)));
     }
     if call == 1 {
         return new_number(h);
@@ -580,7 +486,8 @@ fn of_keys(h: Hand, call: usize, line: &[u8]) {
 // A call on the picked answer.
 fn of_pick(h: Hand, call: usize, line: &[u8]) {
     if call == 9 {
-        return tell(yes_no(pick_answer::is_trivial_move(picked_of(h))));
+        let r = pick_answer::is_trivial_move(picked_of(h));
+        return tell(r.map(|b| Some(b as u64)));
     }
     if call == 10 {
         return deletions(h);
@@ -596,21 +503,18 @@ fn of_pick(h: Hand, call: usize, line: &[u8]) {
 
 // The answer of a question; none for a call that has no name here.
 fn answer(h: Hand, line: &[u8]) {
-    let call = name(
-        b"form new apply write live base mem find lookup trivial deletions columns cut step",
-        line,
-        1,
-    );
+    let names =
+        b"form new apply write live base mem find lookup trivial deletions columns cut step";
+    let Some(call) = name(names, line, 1) else {
+        return tell(Ok(None));
+    };
     if call < 5 {
         return of_store(h, call, line);
     }
     if call < 9 {
         return of_keys(h, call, line);
     }
-    if call < 14 {
-        return of_pick(h, call, line);
-    }
-    tell(FirstPart::Nothing)
+    of_pick(h, call, line)
 }
 
 // What is at hand after a line that sets something; as it was after any other.
@@ -659,38 +563,27 @@ fn next_kept(h: Hand, kept: Hand, command: usize) -> Hand {
 }
 
 // Answers a question, with its count before it. Returns how many questions there were.
-fn counted(h: Hand, line: &[u8], before: u64) -> u64 {
+fn answered(h: Hand, line: &[u8], before: u64) -> u64 {
     let n = before % 1000000 + 1;
     print_count(n);
     answer(h, line);
     n
 }
 
-// One line.
+// One line; lines that begin with # say what follows.
 fn take(t: Table, line: &[u8]) -> Table {
-    let command = name(b"new keep back set count file pointer asked ask", line, 0);
-    let h = t.hand;
-    let kept = t.kept;
+    let Some(command) = name(b"new keep back set count file pointer asked ask", line, 0) else {
+        return t;
+    };
     let mut n = t.count;
     if command == 8 {
-        n = counted(h, line, n);
+        n = answered(t.hand, line, n);
     }
     Table {
-        hand: next_hand(h, kept, line, command),
-        kept: next_kept(h, kept, command),
+        hand: next_hand(t.hand, t.kept, line, command),
+        kept: next_kept(t.hand, t.kept, command),
         count: n,
     }
-}
-
-// A run of the table as a line; lines that begin with # say what follows.
-fn turn(t: Table, text: &[u8], from: usize, to: usize) -> Table {
-    if text.len() < to {
-        return t;
-    }
-    if to < from {
-        return t;
-    }
-    take(t, &text[from..to])
 }
 
 // The lines of a table in turn.
@@ -701,15 +594,8 @@ fn follow(text: &[u8]) {
         kept: none,
         count: 0,
     };
-    let n = text.len();
-    let mut at: usize = 0;
-    while at < n {
-        let end = script_words::place_of(text, at, n, b'\n');
-        t = turn(t, text, at, end);
-        if n <= end {
-            return;
-        }
-        at = end + 1;
+    for line in text.split(|b| *b == b'\n') {
+        t = take(t, line);
     }
 }
 
@@ -718,6 +604,6 @@ fn main() {
     let mut text = io::large_buffer();
     let n = io::read_full(0, &mut text);
     if n <= text.len() {
-        follow(&text[0..n]);
+        follow(&text[..n]);
     }
 }
