@@ -13,7 +13,7 @@ use Rattle.lemmas.specs.Laying.{put_next}
 use Rattle.model.specs.Snapshot.{same_bytes, byte_long}
 use Rattle.model.specs.DifferenceBytes.{left_kind, right_kind, changed_kind}
 use Rattle.difference_scan.specs.declared.Kind.{Kind}
-use Rattle.difference_scan.specs.declared.Kind.TheVariants.{Left, Right, Changed}
+use Rattle.difference_scan.specs.declared.Kind.TheVariants.{Left, Right, Changed, Same}
 use Rattle.difference_scan.specs.Scan.{after_part, part_bytes, rise_long, rise_of, head, tail, left_entry, right_entry, same_kind, byte_of, goes_first, kind_by, kind_at, entry_of}
 
 -- ---- places
@@ -46,6 +46,21 @@ unfolding part_bytes
 part_lent p src at end h t = cut_lent src at end (after_part p (drop at src)) h t
 
 -- ---- what a turn finds
+-- the kind with a byte. A byte that no kind has is read as the last one
+abbrev kind_of : ℕ → Kind
+kind_of n = cond (eqb n left_kind) Left (cond (eqb n right_kind) Right (cond (eqb n changed_kind) Changed Same))
+
+-- the kind with the byte of a kind is that kind
+kind_of_byte : (k : Kind) → kind_of (byte_of k) ≡ k
+kind_of_byte Left = refl
+kind_of_byte Right = refl
+kind_of_byte Changed = refl
+kind_of_byte Same = refl
+
+-- two kinds have two bytes
+pub one_byte : (j k : Kind) → byte_of j ≡ byte_of k → j ≡ k
+one_byte j k e = sym (kind_of_byte j) ∙ ap kind_of e ∙ kind_of_byte k
+
 -- an entry is written of what only the left has
 pub left_byte : (k : Kind) → k ≡ Left → byte_of k ≡ same_kind → ⊥
 left_byte k e h = let f : byte_of k ≡ left_kind = ap byte_of e in omega arith
