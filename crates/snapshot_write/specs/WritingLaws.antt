@@ -40,7 +40,6 @@ use Rattle.store.specs.StoreLaws as store
 use Rattle.snapshot_write.specs.Writing.{snapshot_of}
 use Rattle.snapshot_parts.specs.LayingLaws.{record_short, key_long, pointer_short, set_from, length_here}
 
-
 -- ---- what is left to count
 
 -- the bytes of a file and of those after it
