@@ -1,5 +1,5 @@
 -- The range that a line names, from what the code has read. Assumes nothing.
-use Rattle.std.specs.Prelude.{ℕ, ◌≡◌, refl, List}
+use Rattle.std.specs.Prelude.{ℕ, ◌≡◌, List}
 use Rattle.model.specs.File.{full}
 use Rattle.model.specs.Pick as model
 use Rattle.keys.specs.Key.{key_of}
