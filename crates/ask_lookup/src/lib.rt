@@ -23,6 +23,7 @@ use level_list::FileList;
 use records::{FileRecord, Level, Version};
 
 // A list of numbers, zeros past them.
+// An array with a count beside it, as no heap is used.
 #[derive(Clone, Copy)]
 pub struct Column {
     pub numbers: [u64; Version::ROOM],

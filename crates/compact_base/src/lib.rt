@@ -17,6 +17,7 @@ use records::Level;
 use store::Store;
 
 // The memory of base-level questions: the last user key asked, if any. If none was, the key has no bytes.
+// A flag beside a key: program `faults` passes a key that was not asked, which an Option can't hold.
 #[derive(Clone, Copy)]
 pub struct Asked {
     pub any: bool,

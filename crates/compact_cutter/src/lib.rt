@@ -14,6 +14,7 @@ use keys::Key;
 use pick_answer::Picked;
 
 // The cutter's memory.
+// A flag beside a place and a count: program `faults` passes memories that have seen no key and stand at a place.
 #[derive(Clone, Copy)]
 pub struct Cutter {
     // Whether a key was seen.

@@ -31,6 +31,7 @@ pub struct Pointing {
 }
 
 // An edit. Each kind of entry has an array and a count.
+// No heap is used. `delete`, `add` and `point` are alike: a list of an array of any type of entry is no type of Rattle.
 #[derive(Clone, Copy)]
 pub struct Edit {
     pub pointings: [Pointing; Edit::POINTINGS],

@@ -11,6 +11,7 @@ ghost use Rattle.edit_stayers.specs.Stayers.{has_pair, stays_by, stayers_by, num
 use records::{Level, Version};
 
 // The places of the stayers.
+// Arrays with counts beside them, as no heap is used.
 #[derive(Clone, Copy)]
 pub struct Kept {
     // Level after level in the first `total` entries, zeros past them.

@@ -28,6 +28,7 @@ impl Word {
 }
 
 // An internal key: a user key and eight trailer bytes, the first `len` of `bytes`.
+// An array with a length beside it, as no heap is used; program `faults` passes lengths beyond the room.
 #[derive(Clone, Copy)]
 pub struct Key {
     pub bytes: [u8; Key::ROOM],
@@ -42,6 +43,7 @@ impl Key {
 }
 
 // A user key: the first `len` of `bytes`.
+// An array with a length beside it, as no heap is used; program `faults` passes lengths beyond the room.
 #[derive(Clone, Copy)]
 pub struct UserKey {
     pub bytes: [u8; UserKey::ROOM],

@@ -17,6 +17,7 @@ use records::{Ends, FileRecord, Level, Version};
 use store::Store;
 
 // The files of one level, with blank records past them.
+// An array with a count beside it, as no heap is used.
 #[derive(Clone, Copy)]
 pub struct FileList {
     pub files: [FileRecord; Version::ROOM],

@@ -20,6 +20,7 @@ pub fn counted(counts: [usize; Level::COUNT]) -> usize
 }
 
 // The result of one look at levels.
+// An array with a count beside it, as no heap is used.
 #[derive(Clone, Copy)]
 pub struct Surveyed {
     // The file numbers, zeros past them.

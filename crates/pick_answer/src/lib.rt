@@ -20,6 +20,7 @@ pub enum Cause {
 }
 
 // A picked answer.
+// One array with three counts beside it, as no heap is used: together the lists have no more files than a version.
 #[derive(Clone, Copy)]
 pub struct Picked {
     pub level: usize,

@@ -24,6 +24,7 @@ use records::{FileRecord, Level, Version};
 use store::Store;
 
 // A pick between two searches.
+// Searches have numbers: one loop counts through them (`choose`), and an enum would need a table of its variants for that.
 #[derive(Clone, Copy)]
 pub struct Choice {
     pub level: usize,

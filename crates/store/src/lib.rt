@@ -15,6 +15,7 @@ use levels::Surveyed;
 use records::{FileRecord, Level, Version};
 
 // The key after which a level's next size pick goes on. If it is not set, the pick starts at the first file.
+// A flag beside a key: program `faults` passes a key that is not set, which an Option can't hold.
 #[derive(Clone, Copy)]
 pub struct Pointer {
     pub set: bool,
@@ -22,6 +23,7 @@ pub struct Pointer {
 }
 
 // A store.
+// Arrays with counts beside them, as no heap is used: a store has one size and lies in place.
 #[derive(Clone, Copy)]
 pub struct Store {
     // The files, level after level, with blank records past them.
@@ -43,6 +45,7 @@ pub struct Looked {
 }
 
 // What one look at a store tells of its file numbers.
+// An array with a count beside it, as no heap is used.
 #[derive(Clone, Copy)]
 pub struct Numbered {
     // The file numbers, zeros past them; all zeros if the levels are not arranged.
