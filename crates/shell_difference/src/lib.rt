@@ -5,12 +5,12 @@ mod slots;
 
 ghost use Rattle.std.specs.Prelude.{◌≤◌, length};
 
+use answers::Refusal;
 use difference::List;
 use script_parts::Run;
 use script_table::Fault;
 pub use slots::{Kept, nothing};
 use snapshot_parts::Snapshot;
-use snapshot_write::Written;
 use store::Store;
 
 // Room for the bytes of a word.
@@ -34,26 +34,6 @@ fn list_room() -> [u8; Room::LIST] {
     [0u8; Room::LIST]
 }
 
-// ---- answers
-
-// What a call left: `ok`, or the refusal.
-fn put_done(out: &mut [u8], w: Written) -> usize {
-    match w {
-        Written::Bytes(_) => script_lines::put(out, 0, b"ok"),
-        Written::Refused(n) => script_lines::put_refused(out, 0, n),
-    }
-}
-
-// The bytes that a call wrote, in hex, or the refusal.
-fn put_bytes(out: &mut [u8], room: &[u8], w: Written) -> usize {
-    match w {
-        Written::Bytes(n) => shell_reply::put_front(out, room, n),
-        Written::Refused(n) => script_lines::put_refused(out, 0, n),
-    }
-}
-
-// ---- the commands
-
 // A word of a line, the command's name being word 0.
 fn word(line: &[u8], i: usize) -> Run {
     script_parts::run_of(line, script_parts::words_of(line), i)
@@ -65,49 +45,49 @@ pub fn keep(out: &mut [u8], s: Store, line: &[u8], kept: &mut [u8]) -> usize
 {
     let w = word(line, 1);
     let letter = script_words::byte_at(line, w.from);
-    let at = put_done(out, slots::keep(kept, letter, s));
+    let said = shell_reply::said_of(slots::keep(kept, letter, s));
+    let at = shell_reply::put_said(out, said);
     script_lines::within(out, at)
 }
 
 // Writes the list of what differs between the two snapshots of a line to lent bytes.
-fn compare(kept: &[u8], line: &[u8], list: &mut [u8]) -> Written {
+fn compare(kept: &[u8], line: &[u8], list: &mut [u8]) -> Result<usize, Refusal> {
     let mut left = snapshot_room();
     let mut right = snapshot_room();
     let n = slots::lay_word(kept, line, word(line, 1), &mut left);
     let m = slots::lay_word(kept, line, word(line, 2), &mut right);
-    difference::differing(&left[0..n], &right[0..m], list)
+    difference::differing(&left[..n], &right[..m], list)
 }
 
-// What a list makes of the left snapshot of a line.
+// The bytes that a list makes of the left snapshot of a line, in hex, or the refusal.
 fn put_patched(out: &mut [u8], kept: &[u8], line: &[u8], list: &[u8]) -> usize {
     let mut left = snapshot_room();
     let mut made = snapshot_room();
     let n = slots::lay_word(kept, line, word(line, 1), &mut left);
-    let w = patch::patching(&left[0..n], list, &mut made);
-    put_bytes(out, &made, w)
+    match patch::patching(&left[..n], list, &mut made) {
+        Ok(m) => shell_reply::put_front(out, &made, m),
+        Err(r) => script_lines::put_refused(out, 0, r),
+    }
 }
 
-// What a list of n bytes says: `p` what it makes of the left, any other letter its entries.
+// What a list of n bytes says: `l` its bytes, `p` what it makes of the left, any other letter its entries.
 fn put_told(out: &mut [u8], kept: &[u8], line: &[u8], list: &[u8], n: usize, which: u8) -> usize {
     if list.len() < n {
         return 0;
     }
-    if which == b'p' {
-        return put_patched(out, kept, line, &list[0..n]);
+    match which {
+        b'l' => shell_reply::put_front(out, list, n),
+        b'p' => put_patched(out, kept, line, &list[..n]),
+        _ => shell_list::put_list(out, &list[..n]),
     }
-    shell_list::put_list(out, &list[0..n])
 }
 
-// The answer of a command on the list of what differs between the two snapshots of a line: `l` its bytes, or what it says.
+// The answer of a command on the list of what differs between the two snapshots of a line: what it says, or the refusal.
 fn put_compared(out: &mut [u8], kept: &[u8], line: &[u8], which: u8) -> usize {
     let mut list = list_room();
-    let w = compare(kept, line, &mut list);
-    if which == b'l' {
-        return put_bytes(out, &list, w);
-    }
-    match w {
-        Written::Bytes(n) => put_told(out, kept, line, &list, n, which),
-        Written::Refused(n) => script_lines::put_refused(out, 0, n),
+    match compare(kept, line, &mut list) {
+        Ok(n) => put_told(out, kept, line, &list, n, which),
+        Err(r) => script_lines::put_refused(out, 0, r),
     }
 }
 
@@ -115,7 +95,7 @@ fn put_compared(out: &mut [u8], kept: &[u8], line: &[u8], which: u8) -> usize {
 fn put_applied(out: &mut [u8], kept: &[u8], line: &[u8]) -> usize {
     let mut list = list_room();
     let n = slots::lay_word(kept, line, word(line, 2), &mut list);
-    put_patched(out, kept, line, &list[0..n])
+    put_patched(out, kept, line, &list[..n])
 }
 
 // What is wrong with a word that names a letter under which nothing is kept. Words are counted from 1.

@@ -1,12 +1,10 @@
 // Snapshots kept under the letters a and b, in lent bytes: a slot for each, which begins with the length of what it holds. A length of 0: nothing is kept.
-ghost use Rattle.std.specs.Prelude.{◌+◌, ◌≤◌, ◌≡◌, length};
-ghost use Rattle.model.specs.Snapshot.{count_long};
+ghost use Rattle.std.specs.Prelude.{◌≤◌, ◌≡◌, length};
 ghost use Rattle.shell_difference.specs.Slots.{slot_long, kept_long};
 
 use answers::Refusal;
 use script_parts::Run;
 use snapshot_parts::Snapshot;
-use snapshot_write::Written;
 use store::Store;
 
 // The lengths of the slots.
@@ -37,29 +35,17 @@ fn slot_of(letter: u8) -> usize
     0
 }
 
-// Notes the length of what is kept in a slot, if it was written. Requires: the slot begins within the bytes.
-fn noted(kept: &mut [u8], slot: usize, w: Written) -> Written
-    requires { slot + count_long ≤ length kept.old }
-{
-    match w {
-        Written::Refused(n) => Written::Refused(n),
-        Written::Bytes(n) => {
-            snapshot_parts::put_number(kept, slot, Snapshot::COUNT, n as u64);
-            Written::Bytes(n)
-        }
-    }
-}
-
-// Keeps a store's snapshot under a letter. It is refused as a snapshot is that is written.
-pub(crate) fn keep(kept: &mut [u8], letter: u8, s: Store) -> Written {
+// Keeps a store's snapshot under a letter, and its length before it. It is refused as a snapshot is that is written.
+pub(crate) fn keep(kept: &mut [u8], letter: u8, s: Store) -> Result<(), Refusal> {
     let slot = slot_of(letter);
     let from = slot + Snapshot::COUNT;
     let to = slot + Kept::SLOT;
     if kept.len() < to {
-        return Written::Refused(Refusal::OUTPUT);
+        return Err(Refusal::Output);
     }
-    let w = snapshot_write::write(s, &mut kept[from..to]);
-    noted(kept, slot, w)
+    let n = snapshot_write::write(s, &mut kept[from..to])?;
+    snapshot_parts::put_number(kept, slot, Snapshot::COUNT, n as u64);
+    Ok(())
 }
 
 // Where the snapshot stands that is kept under a letter: an empty run if nothing is.
@@ -73,28 +59,27 @@ fn run_of(kept: &[u8], letter: u8) -> Run
     let n = snapshot_parse::get_number(kept, slot, Snapshot::COUNT);
     let from = snapshot_parse::after(kept, slot, Snapshot::COUNT);
     Run {
-        from: from,
+        from,
         to: snapshot_parse::after(kept, from, n as usize),
     }
 }
 
-// The letter that a word names, as `$a`; 0 if it names none.
-fn letter_of(line: &[u8], w: Run) -> u8 {
+// The letter that a word names, as `$a`, if it names one.
+fn letter_of(line: &[u8], w: Run) -> Option<u8> {
     if script_words::is_word(line, w.from, w.to, b"$a") {
-        return b'a';
+        return Some(b'a');
     }
     if script_words::is_word(line, w.from, w.to, b"$b") {
-        return b'b';
+        return Some(b'b');
     }
-    0
+    None
 }
 
 // Whether a word names a letter under which nothing is kept.
 pub(crate) fn is_empty(kept: &[u8], line: &[u8], w: Run) -> bool {
-    let letter = letter_of(line, w);
-    if letter == 0 {
+    let Some(letter) = letter_of(line, w) else {
         return false;
-    }
+    };
     let r = run_of(kept, letter);
     r.to <= r.from
 }
@@ -103,13 +88,10 @@ pub(crate) fn is_empty(kept: &[u8], line: &[u8], w: Run) -> bool {
 pub(crate) fn lay_word(kept: &[u8], line: &[u8], w: Run, room: &mut [u8]) -> usize
     ensures { result ≤ length room.new }
 {
-    let letter = letter_of(line, w);
-    if letter == 0 {
+    let Some(letter) = letter_of(line, w) else {
         return script_words::lay_hex(line, w.from, w.to, room);
-    }
+    };
     let r = run_of(kept, letter);
-    let from = r.from;
-    let to = r.to;
-    let n = script_lines::put(room, 0, &kept[from..to]);
+    let n = script_lines::put(room, 0, &kept[r.from..r.to]);
     script_lines::within(room, n)
 }

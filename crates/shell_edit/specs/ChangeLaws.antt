@@ -1,16 +1,15 @@
 -- What the words of a line read as. Assumes nothing.
-use Rattle.std.specs.Prelude.{ℕ, ◌≡◌, List, length, get_or, take}
+use Rattle.std.specs.Prelude.{ℕ, ◌≡◌, List, length, get_or, take, Result}
 use Rattle.std.proofs.Common.{ap, ◌∙◌}
-use Rattle.keys.specs.declared.FileNumber.{FileNumber}
+use Rattle.answers.specs.declared.Refusal.{Refusal}
 use Rattle.store.specs.declared.Store.{Store}
-use Rattle.store.specs.declared.Stored.{Stored}
 use Rattle.script_words.specs.declared.NumberWord.{NumberWord}
 use Rattle.script_words.specs.Words.{word_of, number_word, hex_bytes}
 use Rattle.script_parts.specs.declared.Parts.{Parts}
 use Rattle.script_parts.specs.declared.Run.{Run}
 use Rattle.script_parts.specs.Parts.{words_of, run_of}
 use Rattle.shell_edit.specs.declared.Changed.{Changed}
-use Rattle.shell_edit.specs.Changes.{told_by, counted_by, loaded_by, read_of, set_by, count_by, word_at, number_at, bytes_in}
+use Rattle.shell_edit.specs.Changes.{told_by, counted_by, read_of, set_by, count_by, word_at, number_at, bytes_in}
 
 module _ (line : List ℕ) (w : Parts) (e : w ≡ words_of line) where
   -- a number
@@ -22,21 +21,21 @@ module _ (line : List ℕ) (w : Parts) (e : w ≡ words_of line) where
   run_is i r h = h ∙ ap (λ (p : Parts). run_of line p i) e
 
 -- a number given back or marked, of the line's number
-pub count_is : (s : Store) (line : List ℕ) (which n : ℕ) (r : Stored) (x : Changed) → n ≡ number_at line 1 → r ≡ count_by s which n → x ≡ counted_by r
-    → x ≡ counted_by (count_by s which (number_at line 1))
-count_is s line which n r x h p q = q ∙ ap counted_by (p ∙ ap (count_by s which) h)
+pub count_is : (s : Store) (line : List ℕ) (which n : ℕ) (r : Result Store Refusal) (x : Changed) → n ≡ number_at line 1 → r ≡ count_by s which n → x ≡ counted_by s r
+    → x ≡ counted_by s (count_by s which (number_at line 1))
+count_is s line which n r x h p q = q ∙ ap (counted_by s) (p ∙ ap (count_by s which) h)
 
 -- a counter set, of the line's name and number
-pub set_is : (s : Store) (line : List ℕ) (run : Run) (mark n : ℕ) (r : Stored) (x : Changed) → run ≡ word_at line 1 → mark ≡ get_or line run.from 0 → n ≡ number_at line 2
-    → r ≡ set_by s mark n → x ≡ told_by r → x ≡ told_by (set_by s (get_or line (word_at line 1).from 0) (number_at line 2))
+pub set_is : (s : Store) (line : List ℕ) (run : Run) (mark n : ℕ) (r : Result Store Refusal) (x : Changed) → run ≡ word_at line 1 → mark ≡ get_or line run.from 0 → n ≡ number_at line 2
+    → r ≡ set_by s mark n → x ≡ told_by s r → x ≡ told_by s (set_by s (get_or line (word_at line 1).from 0) (number_at line 2))
 set_is s line run mark n r x h k m p q =
     let name : mark ≡ get_or line (word_at line 1).from 0 = k ∙ ap (λ (y : Run). get_or line y.from 0) h in
-    q ∙ ap told_by (p ∙ ap (λ (y : ℕ). set_by s y n) name ∙ ap (set_by s (get_or line (word_at line 1).from 0)) m)
+    q ∙ ap (told_by s) (p ∙ ap (λ (y : ℕ). set_by s y n) name ∙ ap (set_by s (get_or line (word_at line 1).from 0)) m)
 
 -- a snapshot read, of the line's bytes
-pub load_is : (s : Store) (line : List ℕ) (run : Run) (r : Stored) (x : Changed) → run ≡ word_at line 1 → r ≡ read_of (bytes_in line run.from run.to) → x ≡ loaded_by s r
-    → x ≡ loaded_by s (read_of (bytes_in line (word_at line 1).from (word_at line 1).to))
-load_is s line run r x h p q = q ∙ ap (loaded_by s) (p ∙ ap (λ (y : Run). read_of (bytes_in line y.from y.to)) h)
+pub load_is : (s : Store) (line : List ℕ) (run : Run) (r : Result Store Refusal) (x : Changed) → run ≡ word_at line 1 → r ≡ read_of (bytes_in line run.from run.to) → x ≡ told_by s r
+    → x ≡ told_by s (read_of (bytes_in line (word_at line 1).from (word_at line 1).to))
+load_is s line run r x h p q = q ∙ ap (told_by s) (p ∙ ap (λ (y : Run). read_of (bytes_in line y.from y.to)) h)
 
 -- bytes that fill the shell's room
 pub bytes_are : (line : List ℕ) (from to n : ℕ) (room : List ℕ) → length room ≡ 65536 → take n room ≡ take (length room) (hex_bytes line from to) → take n room ≡ bytes_in line from to

@@ -2,13 +2,12 @@
 #![tactic(auto)]
 
 ghost use Rattle.std.specs.Prelude.{◌≡◌, ◌≤◌, length, get_or, take};
-ghost use Rattle.shell_edit.specs.Changes.{told_by, next_by, counted_by, number_by, handed_by, loaded_by, read_of, set_by, count_by, word_at, number_at, bytes_in, changed_by};
+ghost use Rattle.shell_edit.specs.Changes.{refused_by, told_by, counted_by, handed_by, read_of, set_by, count_by, word_at, number_at, bytes_in, changed_by};
 
-use answers::Outcome;
-use counters::Counters;
+use answers::Refusal;
 use keys::{FileNumber, SequenceNumber};
 use shell_reply::Said;
-use store::{Store, Stored};
+use store::Store;
 use store_numbers::Handed;
 
 // A store, and what is said of the call that left it.
@@ -18,74 +17,65 @@ pub struct Changed {
     pub said: Said,
 }
 
-// `ok` or the refusal, and the store after a call.
-fn told(r: Stored) -> Changed
-    ensures { result ≡ told_by r }
+// After a refused call: the store before it, and the refusal.
+fn refused(s: Store, r: Refusal) -> Changed
+    ensures { result ≡ refused_by s r }
 {
-    let o = r.outcome;
-    let s = r.store;
     Changed {
         store: s,
-        said: shell_reply::said_of(o),
+        said: Said::Denied(r),
     }
 }
 
-// The next file number, or the refusal.
-fn next_of(o: Outcome, c: Counters) -> Said
-    ensures { result ≡ next_by o c }
+// The store after a call on one, and `ok` or the refusal.
+pub fn told(s: Store, r: Result<Store, Refusal>) -> Changed
+    ensures { result ≡ told_by s r }
 {
-    let next = c.next;
-    match o {
-        Outcome::Done => Said::Next(next.0),
-        Outcome::Refused(n) => Said::Denied(n),
+    match r {
+        Ok(store) => Changed {
+            store,
+            said: Said::Agreed,
+        },
+        Err(r) => refused(s, r),
     }
 }
 
-// The next file number or the refusal, and the store after a call.
-fn counted(r: Stored) -> Changed
-    ensures { result ≡ counted_by r }
+// The store after a call on one, and its next file number or the refusal.
+fn counted(s: Store, r: Result<Store, Refusal>) -> Changed
+    ensures { result ≡ counted_by s r }
 {
-    let o = r.outcome;
-    let s = r.store;
-    let c = s.counters;
-    Changed {
-        store: s,
-        said: next_of(o, c),
+    match r {
+        Ok(store) => Changed {
+            store,
+            said: Said::Next(store.counters.next.0),
+        },
+        Err(r) => refused(s, r),
     }
 }
 
-// The number handed out, or the refusal.
-fn number_of(o: Outcome, n: FileNumber) -> Said
-    ensures { result ≡ number_by o n }
+// The store after a number is handed out of one, and the number or the refusal.
+fn handed(s: Store, h: Result<Handed, Refusal>) -> Changed
+    ensures { result ≡ handed_by s h }
 {
-    match o {
-        Outcome::Done => Said::Number(n.0),
-        Outcome::Refused(x) => Said::Denied(x),
-    }
-}
-
-// The number handed out or the refusal, and the store after it.
-fn handed(h: Handed) -> Changed
-    ensures { result ≡ handed_by h }
-{
-    let o = h.outcome;
-    let s = h.store;
-    Changed {
-        store: s,
-        said: number_of(o, h.number),
+    match h {
+        Ok(h) => Changed {
+            store: h.store,
+            said: Said::Number(h.number.0),
+        },
+        Err(r) => refused(s, r),
     }
 }
 
 // What the first n bytes read as.
-fn read_front(room: &[u8], n: usize) -> Stored
+fn read_front(room: &[u8], n: usize) -> Result<Store, Refusal>
     requires { n ≤ length room.now }
     ensures { result ≡ read_of (take n room.now) }
 {
-    snapshot_read::read(&room[0..n])
+    snapshot_read::read(&room[..n])
 }
 
 // The store that a run of hex digits holds.
-fn read_hex(line: &[u8], from: usize, to: usize) -> Stored
+fn read_hex(line: &[u8], from: usize, to: usize) -> Result<Store, Refusal>
     ensures { result ≡ read_of (bytes_in line.now from to) }
 {
     let mut room = io::large_buffer();
@@ -93,26 +83,8 @@ fn read_hex(line: &[u8], from: usize, to: usize) -> Stored
     read_front(&room, n)
 }
 
-// The store after a read: the one before it on a refusal.
-pub fn loaded(s: Store, r: Stored) -> Changed
-    ensures { result ≡ loaded_by s r }
-{
-    let o = r.outcome;
-    let after = r.store;
-    match o {
-        Outcome::Done => Changed {
-            store: after,
-            said: Said::Agreed,
-        },
-        Outcome::Refused(n) => Changed {
-            store: s,
-            said: Said::Denied(n),
-        },
-    }
-}
-
 // A counter set, by the first byte of its name.
-fn set(s: Store, mark: u8, n: u64) -> Stored
+fn set(s: Store, mark: u8, n: u64) -> Result<Store, Refusal>
     ensures { result ≡ set_by s mark n }
 {
     if mark == b's' {
@@ -125,7 +97,7 @@ fn set(s: Store, mark: u8, n: u64) -> Stored
 }
 
 // A number given back, or marked as used.
-fn count(s: Store, which: u8, n: u64) -> Stored
+fn count(s: Store, which: u8, n: u64) -> Result<Store, Refusal>
     ensures { result ≡ count_by s which n }
 {
     if which == b'r' {
@@ -136,29 +108,29 @@ fn count(s: Store, which: u8, n: u64) -> Stored
 
 // The store that the snapshot of a line holds.
 fn load(s: Store, line: &[u8]) -> Changed
-    ensures { result ≡ loaded_by s (read_of (bytes_in line.now (word_at line.now 1).from (word_at line.now 1).to)) }
+    ensures { result ≡ told_by s (read_of (bytes_in line.now (word_at line.now 1).from (word_at line.now 1).to)) }
 {
     let bytes = script_parts::run_of(line, script_parts::words_of(line), 1);
-    loaded(s, read_hex(line, bytes.from, bytes.to))
+    told(s, read_hex(line, bytes.from, bytes.to))
 }
 
 // The counter of a line set.
 fn set_named(s: Store, line: &[u8]) -> Changed
-    ensures { result ≡ told_by (set_by s (get_or line.now (word_at line.now 1).from 0) (number_at line.now 2)) }
+    ensures { result ≡ told_by s (set_by s (get_or line.now (word_at line.now 1).from 0) (number_at line.now 2)) }
 {
     let w = script_parts::words_of(line);
     let name = script_parts::run_of(line, w, 1);
     let n = script_parts::number(line, w, 2);
     let mark = script_words::byte_at(line, name.from);
-    told(set(s, mark, n.value))
+    told(s, set(s, mark, n.value))
 }
 
 // The number of a line given back, or marked as used.
 fn count_named(s: Store, line: &[u8], which: u8) -> Changed
-    ensures { result ≡ counted_by (count_by s which (number_at line.now 1)) }
+    ensures { result ≡ counted_by s (count_by s which (number_at line.now 1)) }
 {
     let n = script_parts::number(line, script_parts::words_of(line), 1);
-    counted(count(s, which, n.value))
+    counted(s, count(s, which, n.value))
 }
 
 // The store after a command, which is named by a letter, and what is said of it.
@@ -166,10 +138,10 @@ pub fn change(s: Store, line: &[u8], which: u8) -> Changed
     ensures { result ≡ changed_by s line.now which }
 {
     if which == b'e' {
-        return told(edit_apply::apply(s, script_edit::edit_of(line)));
+        return told(s, edit_apply::apply(s, script_edit::edit_of(line)));
     }
     if which == b'n' {
-        return handed(store_numbers::new_file_number(s));
+        return handed(s, store_numbers::new_file_number(s));
     }
     if which == b'l' {
         return load(s, line);

@@ -1,12 +1,12 @@
 // The shell's commands on files: the store's snapshot saved to one, and a store read from one.
 #![tactic(auto)]
 
-ghost use Rattle.std.specs.Prelude.{◌≡◌, ◌≤◌, length};
-ghost use Rattle.shell_edit.specs.Changes.{read_of, loaded_by};
+ghost use Rattle.std.specs.Prelude.{◌≡◌, ◌≤◌, length, IfSome};
+ghost use Rattle.shell_edit.specs.Changes.{read_of, told_by};
 ghost use Rattle.shell_file.specs.Opening.{Left};
 
+use shell_edit::Changed;
 use snapshot_parts::Snapshot;
-use snapshot_write::Written;
 use std::fs::{File, OpenFile, OpenOptions};
 use std::io::{ErrorKind, Read, Write};
 use std::os::unix::fs::OpenOptionsExt;
@@ -20,19 +20,6 @@ pub struct Opened {
     pub store: Store,
     pub at: usize,
 }
-
-// What was read of a file: whether it could be read, and how many bytes.
-#[derive(Clone, Copy)]
-struct Got {
-    fine: bool,
-    count: usize,
-}
-
-// What is read of a file that cannot be opened.
-const UNREAD: Got = Got {
-    fine: false,
-    count: 0,
-};
 
 // Room for a file's bytes.
 #[derive(Clone, Copy)]
@@ -74,11 +61,13 @@ fn lay_name(room: &mut [u8], name: &[u8], tried: u32) -> usize
 {
     let mut at = script_lines::put(room, 0, name);
     at = script_lines::put_byte(room, at, b'.');
-    let mut place: u32 = TRIES / 10;
-    while 0 < place {
-        at = script_lines::put_byte(room, at, b'0' + (tried / place % 10) as u8);
-        place /= 10;
+    let mut digits = [0u8; 6];
+    let mut left = tried;
+    for digit in digits.iter_mut().rev() {
+        *digit = b'0' + (left % 10) as u8;
+        left /= 10;
     }
+    at = script_lines::put(room, at, &digits);
     script_lines::within(room, at)
 }
 
@@ -92,61 +81,50 @@ fn fill<F: Write + OpenFile + Drop>(file: F, bytes: &[u8]) -> bool {
 
 // Gives a file that was written its name. Removes it if it was not written, or if that fails. Whether the file has the name.
 fn name_file<R: Files>(rt: &R, written: bool, at: &str, name: &str) -> bool {
-    if written {
-        if fs::rename(rt, at, name).is_ok() {
-            return true;
-        }
+    if written && fs::rename(rt, at, name).is_ok() {
+        return true;
     }
     let _ = fs::remove_file(rt, at);
     false
 }
 
-// What came of a try to make a new file: it was written and has its name or not, or its first name is taken.
-#[derive(Clone, Copy)]
-enum Tried {
-    Named(bool),
-    Taken,
-}
-
-// Writes bytes to a new file of one name, and gives it the other. Its owner alone may read it.
-fn write_beside<R: Files>(rt: &R, at: &str, name: &str, bytes: &[u8]) -> Tried {
+// Writes bytes to a new file of one name, and gives it the other. Its owner alone may read it. Whether it was written and has its name; None if its first
+// name is taken.
+fn write_beside<R: Files>(rt: &R, at: &str, name: &str, bytes: &[u8]) -> Option<bool> {
     let mut how = OpenOptions::new();
     how.write(true).create_new(true).mode(0o600);
     match how.open(rt, at) {
-        Ok(file) => Tried::Named(name_file(rt, fill(file, bytes), at, name)),
+        Ok(file) => Some(name_file(rt, fill(file, bytes), at, name)),
         Err(e) => {
             if e.kind() == ErrorKind::AlreadyExists {
-                return Tried::Taken;
+                return None;
             }
-            Tried::Named(false)
+            Some(false)
         }
     }
 }
 
-// Writes bytes to a new file whose name has this try's number.
-fn try_beside<R: Files>(rt: &R, name: &str, tried: u32, bytes: &[u8]) -> Tried {
+// Writes bytes to a new file whose name has this try's number. Whether that was done; None if that name is taken.
+fn try_beside<R: Files>(rt: &R, name: &str, tried: u32, bytes: &[u8]) -> Option<bool> {
     let mut room = io::buffer();
     let n = lay_name(&mut room, name.as_bytes(), tried);
-    match str::from_utf8(&room[0..n]) {
+    match str::from_utf8(&room[..n]) {
         Ok(at) => write_beside(rt, at, name, bytes),
-        Err(_) => Tried::Named(false),
+        Err(_) => Some(false),
     }
 }
 
 // Writes bytes to a file, whole or not at all: to a new one beside it, which then takes the name. Whether that was done. A name is text.
 fn write_file<R: Files>(rt: &R, name: &[u8], bytes: &[u8]) -> bool {
-    match str::from_utf8(name) {
-        Ok(text) => {
-            for tried in 0..TRIES {
-                match try_beside(rt, text, tried, bytes) {
-                    Tried::Named(done) => return done,
-                    Tried::Taken => {}
-                }
-            }
-            false
+    let Ok(text) = str::from_utf8(name) else {
+        return false;
+    };
+    for tried in 0..TRIES {
+        if let Some(done) = try_beside(rt, text, tried, bytes) {
+            return done;
         }
-        Err(_) => false,
     }
+    false
 }
 
 // Writes the first n bytes to a file: `ok`, or that it cannot be written.
@@ -154,7 +132,7 @@ fn put_written<R: Files>(rt: &R, out: &mut [u8], name: &[u8], room: &[u8], n: us
     if room.len() < n {
         return 0;
     }
-    if write_file(rt, name, &room[0..n]) {
+    if write_file(rt, name, &room[..n]) {
         return script_lines::put(out, 0, b"ok");
     }
     put_bad(out, b"cannot write ", name, b"")
@@ -163,10 +141,9 @@ fn put_written<R: Files>(rt: &R, out: &mut [u8], name: &[u8], room: &[u8], n: us
 // Saves a store's snapshot to a file.
 fn put_saved<R: Files>(rt: &R, out: &mut [u8], s: Store, name: &[u8]) -> usize {
     let mut room = snapshot_room();
-    let w = snapshot_write::write(s, &mut room);
-    match w {
-        Written::Refused(n) => script_lines::put_refused(out, 0, n),
-        Written::Bytes(n) => put_written(rt, out, name, &room, n),
+    match snapshot_write::write(s, &mut room) {
+        Ok(n) => put_written(rt, out, name, &room, n),
+        Err(r) => script_lines::put_refused(out, 0, r),
     }
 }
 
@@ -185,74 +162,57 @@ fn has_ended<F: Read>(file: &mut F) -> bool {
 fn read_full<F: Read>(file: &mut F, room: &mut [u8]) -> usize
     ensures { result ≤ length room.new }
 {
-    let mut done: usize = 0;
+    let mut done = 0;
+    // A `while`: each read says how many bytes further it came.
     while done < room.len() {
         match file.read(&mut room[done..]) {
-            Ok(n) => {
-                if n == 0 {
-                    return done;
-                }
-                done += n;
-            }
-            Err(_) => return done,
+            Ok(0) | Err(_) => return done,
+            Ok(n) => done += n,
         }
     }
     done
 }
 
-// Reads an open file as far as there is room.
-fn read_open<F: Read + Drop>(file: F, room: &mut [u8]) -> Got
-    ensures { result.count ≤ length room.new }
+// Reads an open file as far as there is room. How many bytes, if it could be read.
+fn read_open<F: Read + Drop>(file: F, room: &mut [u8]) -> Option<usize>
+    ensures { IfSome result (λ n. n ≤ length room.new) }
 {
     let mut file = file;
     let n = read_full(&mut file, room);
-    let fine = (n == room.len()) | has_ended(&mut file);
-    Got {
-        fine: fine,
-        count: n,
-    }
+    let fine = n == room.len() || has_ended(&mut file);
+    fine.then_some(n)
 }
 
-// Reads a file as far as there is room. A name is text.
-fn read_file<R: Files>(rt: &R, name: &[u8], room: &mut [u8]) -> Got
-    ensures { result.count ≤ length room.new }
+// Reads a file as far as there is room. How many bytes, if it could be read. A name is text.
+fn read_file<R: Files>(rt: &R, name: &[u8], room: &mut [u8]) -> Option<usize>
+    ensures { IfSome result (λ n. n ≤ length room.new) }
 {
-    match str::from_utf8(name) {
-        Ok(text) => match File::open(rt, text) {
-            Ok(file) => read_open(file, room),
-            Err(_) => UNREAD,
-        },
-        Err(_) => UNREAD,
-    }
+    let text = str::from_utf8(name).ok()?;
+    let file = File::open(rt, text).ok()?;
+    read_open(file, room)
 }
 
 // The store that bytes hold, and `ok`; or the store as it was, and the refusal.
 fn load(out: &mut [u8], s: Store, bytes: &[u8]) -> Opened
-    ensures { (result.at ≤ length out.new) × (result.store ≡ (loaded_by s (read_of bytes.now)).store) }
+    ensures { (result.at ≤ length out.new) × (result.store ≡ (told_by s (read_of bytes.now)).store) }
 {
-    let c = shell_edit::loaded(s, snapshot_read::read(bytes));
-    let store = c.store;
-    let said = c.said;
+    let Changed { store, said } = shell_edit::told(s, snapshot_read::read(bytes));
     let end = shell_reply::put_said(out, said);
     let at = script_lines::within(out, end);
-    Opened {
-        store: store,
-        at: at,
-    }
+    Opened { store, at }
 }
 
 // The store as it was, and that a file cannot be read or is too long.
 fn stay(out: &mut [u8], s: Store, name: &[u8], long: bool) -> Opened
     ensures { (result.at ≤ length out.new) × (result.store ≡ s) }
 {
-    if long {
-        let end = put_bad(out, b"", name, b" is too long");
-        let at = script_lines::within(out, end);
-        return Opened { store: s, at: at };
-    }
-    let end = put_bad(out, b"cannot read ", name, b"");
+    let end = if long {
+        put_bad(out, b"", name, b" is too long")
+    } else {
+        put_bad(out, b"cannot read ", name, b"")
+    };
     let at = script_lines::within(out, end);
-    Opened { store: s, at: at }
+    Opened { store: s, at }
 }
 
 // ---- the commands
@@ -260,15 +220,7 @@ fn stay(out: &mut [u8], s: Store, name: &[u8], long: bool) -> Opened
 // The name in a line: the word after the command's. No bytes if there is none.
 fn name_of(line: &[u8]) -> &[u8] {
     let w = script_parts::run_of(line, script_parts::words_of(line), 1);
-    let from = w.from;
-    let to = w.to;
-    if line.len() < to {
-        return &line[0..0];
-    }
-    if to < from {
-        return &line[0..0];
-    }
-    &line[from..to]
+    line.get(w.from..w.to).unwrap_or(&line[..0])
 }
 
 // Saves the store's snapshot to the file of a line.
@@ -285,13 +237,11 @@ pub fn open<R: Files>(rt: &R, out: &mut [u8], s: Store, line: &[u8]) -> Opened
 {
     let mut room = file_room();
     let name = name_of(line);
-    let got = read_file(rt, name, &mut room);
-    let n = got.count;
-    if !got.fine {
+    let Some(n) = read_file(rt, name, &mut room) else {
         return stay(out, s, name, false);
-    }
+    };
     if Snapshot::LONGEST < n {
         return stay(out, s, name, true);
     }
-    load(out, s, &room[0..n])
+    load(out, s, &room[..n])
 }
