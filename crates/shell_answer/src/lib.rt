@@ -2,22 +2,33 @@
 #![tactic(auto)]
 
 ghost use Rattle.std.specs.Prelude.{◌≤◌, length};
+ghost use Rattle.shell_answer.specs.Beginning.{end_of};
 
 use store::Store;
 
-// What is known of a line: the group and the letter of its command in the table of commands, whether that leaves the machine as it is,
-// and where the answer ends. Group 0: the line gives no answer. Group p: the answer is laid. Any other: it is still to be laid.
+// A command: its group and its letter in the table of commands.
 #[derive(Clone, Copy)]
-pub struct Begun {
+pub struct Command {
     pub group: u8,
     pub which: u8,
-    pub still: bool,
-    pub at: usize,
 }
 
-// Whether the commands of a group leave the machine as it is: those about keys, two snapshots, the store's snapshot, the store, its files.
+// What is known of a line.
+#[derive(Clone, Copy)]
+pub enum Begun {
+    // It gives no answer.
+    Silent,
+    // Its answer is laid, and ends at this place.
+    Laid(usize),
+    // A command that leaves the machine as it is. Its answer is still to be laid.
+    Asks(Command),
+    // A command that changes the machine.
+    Turns(Command),
+}
+
+// Whether the commands of a group leave the machine as it is: those about two snapshots, the store's snapshot, the store, its files.
 fn is_still(group: u8) -> bool {
-    (group == b'p') | (group == b'd') | (group == b'w') | (group == b'a') | (group == b'q')
+    matches!(group, b'd' | b'w' | b'a' | b'q')
 }
 
 // The text after the first word.
@@ -46,57 +57,43 @@ fn put_plain(out: &mut [u8], line: &[u8], which: u8) -> usize
 }
 
 // The answer to a question about the store, its levels or its keys.
-pub fn put_asked(out: &mut [u8], s: Store, line: &[u8], group: u8, which: u8) -> usize
+pub fn put_asked(out: &mut [u8], s: Store, line: &[u8], c: Command) -> usize
     ensures { result ≤ length out.new }
 {
-    if group == b'a' {
-        return shell_ask::put_answer(out, s, line, which);
+    if c.group == b'a' {
+        return shell_ask::put_answer(out, s, line, c.which);
     }
-    shell_find::put_answer(out, s, line, which)
+    shell_find::put_answer(out, s, line, c.which)
 }
 
 // Whether a line gives no answer: it is blank, or begins with #.
 fn is_silent(line: &[u8]) -> bool {
-    if line.len() == 0 {
-        return true;
+    match line.first() {
+        Some(b) => *b == b'#',
+        None => true,
     }
-    line[0] == b'#'
 }
 
 // Reads a line, and lays its answer where that needs no store.
 pub fn begin(out: &mut [u8], line: &[u8]) -> Begun
-    ensures { result.at ≤ length out.new }
+    ensures { end_of result ≤ length out.new }
 {
     if is_silent(line) {
-        return Begun {
-            group: 0,
-            which: 0,
-            still: true,
-            at: 0,
-        };
+        return Begun::Silent;
     }
     let r = script_table::read(line);
-    let f = r.fault;
-    if f.kind != 0 {
-        return Begun {
-            group: b'p',
-            which: 0,
-            still: true,
-            at: script_table::put_fault(out, line, f),
-        };
+    if r.fault.kind != 0 {
+        return Begun::Laid(script_table::put_fault(out, line, r.fault));
     }
     if r.group == b'p' {
-        return Begun {
-            group: r.group,
-            which: r.which,
-            still: true,
-            at: put_plain(out, line, r.which),
-        };
+        return Begun::Laid(put_plain(out, line, r.which));
     }
-    Begun {
+    let command = Command {
         group: r.group,
         which: r.which,
-        still: is_still(r.group),
-        at: 0,
+    };
+    if is_still(r.group) {
+        return Begun::Asks(command);
     }
+    Begun::Turns(command)
 }

@@ -3,135 +3,83 @@
 
 ghost use Rattle.std.specs.Prelude.{◌≤◌, length};
 
-use answers::{Counted, Outcome, Refusal, YesNo};
-use ask_find::Found;
-use ask_store::Leveled;
+use answers::Refusal;
 use keys::Key;
-use level_list::{FileList, Listed};
 use records::{Level, Version};
 use script_parts::Parts;
 use shell_reply::Said;
 use store::Store;
 
-// The numbers of a list's files, or the refusal.
-fn put_listed(out: &mut [u8], r: Listed) -> usize {
-    let o = r.outcome;
-    let l = r.list;
-    let files = l.files;
-    match o {
-        Outcome::Refused(n) => script_lines::put_refused(out, 0, n),
-        Outcome::Done => shell_reply::put_files(out, 0, files, 0, l.count),
-    }
-}
-
-// The files of a level that overlap a range.
+// The numbers of the files of a level that overlap a range, or the refusal.
 fn put_overlap(out: &mut [u8], s: Store, line: &[u8], w: Parts) -> usize {
     let l = script_parts::number(line, w, 1);
     let a = script_parts::key(line, w, 2);
     let b = script_parts::key(line, w, 3);
-    put_listed(
-        out,
-        ask_overlap::overlapping_inputs(s, l.value as usize, a.key, b.key),
-    )
-}
-
-// 1 for yes, 0 for no, or the refusal.
-fn said_of(t: YesNo) -> Said {
-    match t {
-        YesNo::Yes => Said::Number(1),
-        YesNo::No => Said::Number(0),
-        YesNo::Refused(n) => Said::Denied(n),
+    match ask_overlap::overlapping_inputs(s, l.value as usize, a.key, b.key) {
+        Ok(list) => shell_reply::put_files(out, 0, list.files, 0, list.count),
+        Err(r) => script_lines::put_refused(out, 0, r),
     }
 }
 
-// Whether some file of a level overlaps a range.
+// Whether some file of a level overlaps a range: 1 for yes, 0 for no, or the refusal.
 fn inlevel(s: Store, line: &[u8], w: Parts) -> Said {
     let l = script_parts::number(line, w, 1);
     let a = script_parts::user(line, w, 2);
     let b = script_parts::user(line, w, 3);
-    said_of(ask_overlap::overlap_in_level(s, l.value as usize, a.user, b.user))
+    match ask_overlap::overlap_in_level(s, l.value as usize, a.user, b.user) {
+        Ok(yes) => Said::Number(yes as u64),
+        Err(r) => Said::Denied(r),
+    }
 }
 
 // The level of a memory table.
 fn mem(s: Store, line: &[u8], w: Parts) -> Said {
     let a = script_parts::user(line, w, 1);
     let b = script_parts::user(line, w, 2);
-    let r = ask_store::pick_memtable_output_level(s, a.user, b.user);
-    match r {
-        Leveled::Level(l) => Said::Number(l as u64),
-        Leveled::Refused(n) => Said::Denied(n),
-    }
-}
-
-// The index of the first file of a list whose largest is not before a key.
-fn find_in(level: usize, l: FileList, k: Key) -> Said {
-    let files = l.files;
-    let count = l.count;
-    if Version::ROOM < count {
-        return Said::Nothing;
-    }
-    let f = lend::find_file_of(level, files, count, k);
-    match f {
-        Found::At(i) => Said::Number(i as u64),
-        Found::Nowhere => Said::Nothing,
-        Found::Refused(n) => Said::Denied(n),
+    match ask_store::pick_memtable_output_level(s, a.user, b.user) {
+        Ok(level) => Said::Number(level as u64),
+        Err(r) => Said::Denied(r),
     }
 }
 
 // The index of the first file of a level whose largest is not before a key.
+fn find_file(s: Store, level: usize, k: Key) -> Result<Option<usize>, Refusal> {
+    let l = level_list::level_files(s, level)?;
+    ask_find::find_file(level, &l.files[..l.count.min(Version::ROOM)], k)
+}
+
+// The same for the level and the key that a line names.
 fn find(s: Store, line: &[u8], w: Parts) -> Said {
     let l = script_parts::number(line, w, 1);
     let k = script_parts::key(line, w, 2);
-    let level = l.value as usize;
-    let r = level_list::level_files(s, level);
-    find_in(level, r.list, k.key)
-}
-
-// A blank before each level but the first.
-fn put_gap(out: &mut [u8], at: usize, level: usize) -> usize {
-    if level == 0 {
-        return at;
-    }
-    script_lines::put_byte(out, at, b' ')
-}
-
-// The first n numbers of a column.
-fn put_first(out: &mut [u8], at: usize, column: &[u64], n: usize) -> usize {
-    if column.len() < n {
-        return at;
-    }
-    shell_reply::put_column(out, at, &column[0..n])
-}
-
-// The files of a list that may hold a key, or the refusal.
-fn put_found(out: &mut [u8], at: usize, level: usize, l: FileList, k: Key) -> usize {
-    let mut column = [0u64; Version::ROOM];
-    let files = l.files;
-    let count = l.count;
-    if Version::ROOM < count {
-        return at;
-    }
-    let c = lend::look_up_of(level, files, count, k, &mut column);
-    match c {
-        Counted::Filled(n) => put_first(out, at, &column, n),
-        Counted::Refused(n) => script_lines::put_refused(out, at, n),
+    match find_file(s, l.value as usize, k.key) {
+        Ok(Some(i)) => Said::Number(i as u64),
+        Ok(None) => Said::Nothing,
+        Err(r) => Said::Denied(r),
     }
 }
 
-// The files of a level that may hold a key, a blank before them unless it is level 0.
+// The numbers of the files of a level that may hold a key, into lent output. Returns how many there are.
+fn look_up(s: Store, level: usize, k: Key, out: &mut [u64]) -> Result<usize, Refusal> {
+    let l = level_list::level_files(s, level)?;
+    ask_lookup::look_up(level, &l.files[..l.count.min(Version::ROOM)], k, out)
+}
+
+// The files of a level that may hold a key, or the refusal, a blank before them unless it is level 0.
 fn put_level(out: &mut [u8], start: usize, s: Store, level: usize, k: Key) -> usize {
-    let r = level_list::level_files(s, level);
-    let at = put_gap(out, start, level);
-    put_found(out, at, level, r.list, k)
+    let at = script_lines::put_gap(out, start);
+    let mut column = [0u64; Version::ROOM];
+    match look_up(s, level, k, &mut column) {
+        Ok(n) => shell_reply::put_column(out, at, &column[..n.min(Version::ROOM)]),
+        Err(r) => script_lines::put_refused(out, at, r),
+    }
 }
 
 // The files of each level that may hold a key.
 fn put_levels(out: &mut [u8], s: Store, k: Key) -> usize {
-    let mut at: usize = 0;
-    let mut level: usize = 0;
-    while level < Level::COUNT {
+    let mut at = 0;
+    for level in 0..Level::COUNT {
         at = put_level(out, at, s, level, k);
-        level += 1;
     }
     at
 }
@@ -139,11 +87,10 @@ fn put_levels(out: &mut [u8], s: Store, k: Key) -> usize {
 // The files of each level that may hold a key, or the refusal.
 fn put_lookup(out: &mut [u8], s: Store, line: &[u8], w: Parts) -> usize {
     let k = script_parts::key(line, w, 1);
-    let key = k.key;
-    if !keys::is_good(key) {
-        return script_lines::put_refused(out, 0, Refusal::KEY);
+    if !keys::is_good(k.key) {
+        return script_lines::put_refused(out, 0, Refusal::Key);
     }
-    put_levels(out, s, key)
+    put_levels(out, s, k.key)
 }
 
 // A short answer.

@@ -1,7 +1,8 @@
 -- The pick that a line asks for. Assumes nothing.
-use Rattle.std.specs.Prelude.{ℕ, cond, List, eqb}
+use Rattle.std.specs.Prelude.{ℕ, cond, List, eqb, Result}
 use Rattle.model.specs.File.{full}
 use Rattle.model.specs.Pick as model
+use Rattle.answers.specs.declared.Refusal.{Refusal}
 use Rattle.keys.specs.Key.{key_of}
 use Rattle.store.specs.declared.Store.{Store}
 use Rattle.store.specs.Store.{on_store}
@@ -16,17 +17,17 @@ abbrev pub word_at : List ℕ → ℕ → Run
 word_at line i = run_of line (words_of line) i
 
 -- a pick by size
-unfoldable pub size_pick : Store → ℕ → Pick
-size_pick s maximum = pick_of s (on_store s (λ t. model.size_pick full t maximum))
+unfoldable pub size_pick : Store → ℕ → Result Pick Refusal
+size_pick s maximum = pick_of (on_store s (λ t. model.size_pick full t maximum))
 
 -- a pick of the range that a line names: its level and its two keys
-unfoldable pub range_pick : Store → ℕ → List ℕ → Pick
+unfoldable pub range_pick : Store → ℕ → List ℕ → Result Pick Refusal
 range_pick s maximum line =
-    pick_of s (on_store s (λ t. model.manual_pick full t maximum
+    pick_of (on_store s (λ t. model.manual_pick full t maximum
     (number_word (word_of line (word_at line 1).from (word_at line 1).to)).value
     (key_of (internal_key line (word_at line 2).from (word_at line 2).to).key)
     (key_of (internal_key line (word_at line 3).from (word_at line 3).to).key)))
 
 -- p: by size; any other letter: of a range
-unfoldable pub picked_by : Store → ℕ → List ℕ → ℕ → Pick
+unfoldable pub picked_by : Store → ℕ → List ℕ → ℕ → Result Pick Refusal
 picked_by s maximum line which = cond (eqb which 112) (size_pick s maximum) (range_pick s maximum line)

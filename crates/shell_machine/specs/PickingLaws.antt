@@ -1,5 +1,5 @@
 -- The range that a line names, from what the code has read. Assumes nothing.
-use Rattle.std.specs.Prelude.{ℕ, ◌≡◌, refl, List}
+use Rattle.std.specs.Prelude.{ℕ, ◌≡◌, List}
 use Rattle.model.specs.File.{full}
 use Rattle.model.specs.Pick as model
 use Rattle.keys.specs.Key.{key_of}
@@ -17,6 +17,6 @@ use Rattle.shell_machine.specs.Picking.{range_pick}
 pub range_is : (s : Store) (maximum : ℕ) (line : List ℕ) (w : Parts) (l : NumberWord) (a b : KeyWord) → w ≡ words_of line
     → l ≡ number_word (word_of line (run_of line w 1).from (run_of line w 1).to) → a ≡ internal_key line (run_of line w 2).from (run_of line w 2).to
     → b ≡ internal_key line (run_of line w 3).from (run_of line w 3).to
-    → pick_of s (on_store s (λ t. model.manual_pick full t maximum l.value (key_of a.key) (key_of b.key))) ≡ range_pick s maximum line
+    → pick_of (on_store s (λ t. model.manual_pick full t maximum l.value (key_of a.key) (key_of b.key))) ≡ range_pick s maximum line
 unfolding range_pick
 range_is s maximum line w l a b p q r t = rw (q, r, t, p)
