@@ -7,19 +7,18 @@ ghost use Rattle.level_list.specs.List.{well_list};
 ghost use Rattle.pick_answer.specs.Picked.{well_picked};
 ghost use Rattle.store.specs.Store.{well_store};
 
-use answers::{Counted, Outcome};
+use answers::Refusal;
 use bench_loops::Round;
 use compact_cutter::Cutter;
 use difference::List;
 use edit::{Addition, Deletion, Edit};
 use keys::{FileNumber, Key};
 use level_list::FileList;
-use pick_answer::Picked;
+use pick_answer::{Pick, Picked};
 use records::Version;
 use snapshot_parts::Snapshot;
-use snapshot_write::Written;
 use std::env::Env;
-use store::{Store, Stored};
+use store::Store;
 
 // A size of files by which no work is due.
 const SMALL: u64 = 1000;
@@ -36,20 +35,11 @@ const MAXIMUM: u64 = 2097152;
 // The number in decimal at the start of a text, as far as its digits go.
 fn number(s: &[u8]) -> u64 {
     let mut x: u64 = 0;
-    let mut i = 0;
-    while i < s.len() {
-        let c = s[i];
-        if c < 48 {
+    for c in s {
+        if 1000000000000 < x || !c.is_ascii_digit() {
             return x;
         }
-        if 57 < c {
-            return x;
-        }
-        if 1000000000000 < x {
-            return x;
-        }
-        x = x * 10 + octets::wide(c - 48);
-        i += 1;
+        x = x * 10 + u64::from(*c - b'0');
     }
     x
 }
@@ -80,23 +70,15 @@ fn digit(n: u64, place: u64) -> u8
 
 // A cam key of machine and axis: m1/axis03/ and four digits, sequence 1.
 fn cam_key(n: u64) -> Key {
-    let prefix = *b"m1/axis03/";
     let mut bytes = [0u8; 40];
-    let mut i: usize = 0;
-    while i < 10 {
-        bytes[i] = prefix[i];
-        i += 1;
-    }
+    bytes[..10].copy_from_slice(b"m1/axis03/");
     bytes[10] = digit(n, 1000);
     bytes[11] = digit(n, 100);
     bytes[12] = digit(n, 10);
     bytes[13] = digit(n, 1);
     bytes[14] = 1;
     bytes[15] = 1;
-    Key {
-        bytes: bytes,
-        len: 22,
-    }
+    Key { bytes, len: 22 }
 }
 
 // The first of a level's files and how many there are, at least 1.
@@ -114,13 +96,9 @@ fn share_of(level: usize, files: u64) -> Share
     let f = files % 1000;
     let from = start(level, f);
     let to = start(level + 1, f);
-    let mut width: u64 = 1;
-    if from < to {
-        width = to - from;
-    }
     Share {
-        from: from,
-        width: width,
+        from,
+        width: to.saturating_sub(from).max(1),
     }
 }
 
@@ -155,58 +133,35 @@ fn level_of(i: u64, files: u64) -> usize
     3
 }
 
-// A number less another, 0 where that is greater.
-fn less(n: u64, m: u64) -> u64
-    ensures { result ≤ n }
-{
-    if n < m {
-        return 0;
-    }
-    n - m
-}
-
 // File i of so many: the files of each level share all the keys among them, one after another.
 fn addition(number: u64, i: u64, files: u64, size: u64) -> Addition {
     let level = level_of(i, files);
     let s = share_of(level, files);
     let width = s.width;
-    let n = less(i % 1000, s.from) % width % 1000;
+    let n = (i % 1000).saturating_sub(s.from) % width % 1000;
     Addition {
-        level: level,
+        level,
         number: FileNumber(number),
-        size: size,
+        size,
         smallest: cam_key(n * KEYS / width),
-        largest: cam_key(less((n + 1) * KEYS / width, 1)),
+        largest: cam_key(((n + 1) * KEYS / width).saturating_sub(1)),
     }
 }
 
 // A store of so many files, 64 added at a time.
 fn filled(files: u64, size: u64) -> Store {
     let mut s = store::fresh_store();
-    let mut i: u64 = 0;
-    while i < files % 1000 {
+    let count = files % 1000;
+    for i in (0..count).step_by(64) {
         let mut e = Edit::empty();
-        let mut k: u64 = 0;
-        while k < 64 {
-            let n = i % 1000 + k;
-            if n < files % 1000 {
-                e = e.add(addition(10 + n, n, files, size));
-            }
-            k += 1;
+        for n in i..count.min(i + 64) {
+            e = e.add(addition(10 + n, n, files, size));
         }
-        let r = edit_apply::apply(s, e);
-        s = r.store;
-        i += 64;
+        if let Ok(t) = edit_apply::apply(s, e) {
+            s = t;
+        }
     }
     s
-}
-
-// Whether a call was not refused.
-fn is_done(o: Outcome) -> bool {
-    match o {
-        Outcome::Done => true,
-        Outcome::Refused(n) => false,
-    }
 }
 
 // The number of file i before the k-th edit: its first one, or that of the last round.
@@ -218,7 +173,7 @@ fn old_number(i: u64, k: u64, width: u64) -> u64 {
 }
 
 // The k-th edit: a file of level 2 deleted, and added again under a new number.
-fn replaced(s: Store, files: u64, k: u64) -> Stored {
+fn replaced(s: Store, files: u64, k: u64) -> Result<Store, Refusal> {
     let level_two = share_of(2, files);
     let width = level_two.width;
     let i = level_two.from + k % width % 1000;
@@ -234,15 +189,11 @@ fn replaced(s: Store, files: u64, k: u64) -> Stored {
 fn bench_edit(files: u64, repeats: u64) -> u64 {
     let mut s = filled(files, SMALL);
     let mut done: u64 = 0;
-    let mut k: u64 = 0;
-    while k < repeats {
-        let r = replaced(s, files, k);
-        let o = r.outcome;
-        s = r.store;
-        if is_done(o) {
-            done = (done + 1) % 1000000000;
+    for k in 0..repeats {
+        if let Ok(t) = replaced(s, files, k) {
+            s = t;
+            done += 1;
         }
-        k += 1;
     }
     done
 }
@@ -250,106 +201,60 @@ fn bench_edit(files: u64, repeats: u64) -> u64 {
 // Whether a store is well-formed, so many times.
 fn bench_form(files: u64, repeats: u64) -> u64 {
     let s = filled(files, SMALL);
-    let mut done: u64 = 0;
-    let mut k: u64 = 0;
-    while k < repeats {
-        if store::is_well_formed(s) {
-            done = (done + 1) % 1000000000;
-        }
-        k += 1;
-    }
-    done
+    (0..repeats).filter(|_| store::is_well_formed(s)).count() as u64
 }
 
-// The snapshot of a store, in bytes as many as the longest has.
-fn snapshot(s: Store) -> [u8; Snapshot::LONGEST] {
+// Whether the snapshot of a store is written.
+fn is_written(s: Store) -> bool {
     let mut out = [0u8; Snapshot::LONGEST];
-    snapshot_write::write(s, &mut out);
-    out
-}
-
-// How long the snapshot of a store is.
-fn length_of(s: Store) -> usize {
-    let mut out = [0u8; Snapshot::LONGEST];
-    let w = snapshot_write::write(s, &mut out);
-    match w {
-        Written::Bytes(n) => n,
-        Written::Refused(n) => 0,
-    }
+    snapshot_write::write(s, &mut out).is_ok()
 }
 
 // A snapshot written, so many times.
 fn bench_write(files: u64, repeats: u64) -> u64 {
     let s = filled(files, SMALL);
-    let mut done: u64 = 0;
-    let mut k: u64 = 0;
-    while k < repeats {
-        if length_of(s) != 0 {
-            done = (done + 1) % 1000000000;
-        }
-        k += 1;
-    }
-    done
+    (0..repeats).filter(|_| is_written(s)).count() as u64
 }
 
-// Whether bytes are read as a snapshot.
-fn is_read(bytes: [u8; Snapshot::LONGEST], length: usize) -> bool {
-    let end = octets::lesser(length, Snapshot::LONGEST);
-    let r = snapshot_read::read(&bytes[0..end]);
-    let o = r.outcome;
-    is_done(o)
+// A snapshot in bytes as many as the longest has, and how long it is.
+#[derive(Clone, Copy)]
+struct Written {
+    bytes: [u8; Snapshot::LONGEST],
+    length: usize,
+}
+
+// The snapshot of a store.
+fn snapshot(s: Store) -> Written {
+    let mut bytes = [0u8; Snapshot::LONGEST];
+    let length = snapshot_write::write(s, &mut bytes).unwrap_or(0);
+    Written { bytes, length }
+}
+
+// Whether a snapshot is read.
+fn is_read(w: Written) -> bool {
+    let end = w.length.min(Snapshot::LONGEST);
+    snapshot_read::read(&w.bytes[..end]).is_ok()
 }
 
 // A snapshot read, so many times.
 fn bench_read(files: u64, repeats: u64) -> u64 {
-    let s = filled(files, SMALL);
-    let n = length_of(s);
-    let bytes = snapshot(s);
-    let mut done: u64 = 0;
-    let mut k: u64 = 0;
-    while k < repeats {
-        if is_read(bytes, n) {
-            done = (done + 1) % 1000000000;
-        }
-        k += 1;
-    }
-    done
+    let w = snapshot(filled(files, SMALL));
+    (0..repeats).filter(|_| is_read(w)).count() as u64
 }
 
 // Whether two snapshots are compared.
-fn is_compared(
-    left: [u8; Snapshot::LONGEST],
-    n: usize,
-    right: [u8; Snapshot::LONGEST],
-    m: usize,
-) -> bool {
-    let left_end = octets::lesser(n, Snapshot::LONGEST);
-    let right_end = octets::lesser(m, Snapshot::LONGEST);
+fn is_compared(left: Written, right: Written) -> bool {
+    let left_end = left.length.min(Snapshot::LONGEST);
+    let right_end = right.length.min(Snapshot::LONGEST);
     let mut out = [0u8; List::LONGEST];
-    let w = difference::differing(&left[0..left_end], &right[0..right_end], &mut out);
-    match w {
-        Written::Bytes(n) => true,
-        Written::Refused(n) => false,
-    }
+    difference::differing(&left.bytes[..left_end], &right.bytes[..right_end], &mut out).is_ok()
 }
 
 // The snapshots of two stores compared, so many times; the right's files have this size.
 fn bench_compared(files: u64, repeats: u64, size: u64) -> u64 {
-    let s = filled(files, SMALL);
-    let n = length_of(s);
-    let left = snapshot(s);
-    let t = filled(files, size);
-    let m = length_of(t);
-    let right = snapshot(t);
-    let mut done: u64 = 0;
-    let mut k: u64 = 0;
-    while k < repeats {
-        if is_compared(left, n, right, m) {
-            done = (done + 1) % 1000000000;
-        }
-        k += 1;
-    }
-    done
+    let left = snapshot(filled(files, SMALL));
+    let right = snapshot(filled(files, size));
+    (0..repeats).filter(|_| is_compared(left, right)).count() as u64
 }
 
 // A size pick on a lent store, so many times, each on the store that the one before has left.
@@ -384,76 +289,42 @@ fn rising(k: u64, repeats: u64) -> u64 {
 // The files of level 2 that overlap one key's range, so many times.
 fn bench_overlap(files: u64, repeats: u64) -> u64 {
     let s = filled(files, SMALL);
-    let mut done: u64 = 0;
-    let mut k: u64 = 0;
-    while k < repeats {
-        let l = ask_overlap::overlapping_inputs(s, 2, cam_key(scattered(k)), cam_key(scattered(k)));
-        let o = l.outcome;
-        if is_done(o) {
-            done = (done + 1) % 1000000000;
-        }
-        k += 1;
-    }
-    done
+    (0..repeats)
+        .filter(|k| is_overlap_told(s, cam_key(scattered(*k))))
+        .count() as u64
 }
 
-// The list of level 2.
-fn level_two(s: Store) -> FileList {
-    let l = level_list::level_files(s, 2);
-    l.list
-}
-
-// Whether an answer came.
-fn is_filled(c: Counted) -> bool {
-    match c {
-        Counted::Filled(n) => true,
-        Counted::Refused(n) => false,
-    }
+// Whether the files of level 2 that overlap one key's range are told.
+fn is_overlap_told(s: Store, key: Key) -> bool {
+    ask_overlap::overlapping_inputs(s, 2, key, key).is_ok()
 }
 
 // The file of a list that may hold a key; the list is tested each time.
 fn look_up(l: FileList, key: Key) -> bool {
     let mut out = [0u64; 4];
     let n = l.count;
-    if Version::ROOM < n {
-        return false;
-    }
-    let files = l.files;
-    is_filled(lend::look_up_of(2, files, n, key, &mut out))
+    n <= Version::ROOM && lend::look_up_of(2, l.files, n, key, &mut out).is_ok()
 }
 
 // A lookup in level 2, so many times.
 fn bench_lookup(files: u64, repeats: u64) -> u64 {
-    let s = filled(files, SMALL);
-    let l = level_two(s);
-    let mut done: u64 = 0;
-    let mut k: u64 = 0;
-    while k < repeats {
-        if look_up(l, cam_key(scattered(k))) {
-            done = (done + 1) % 1000000000;
-        }
-        k += 1;
-    }
-    done
+    let Ok(l) = level_list::level_files(filled(files, SMALL), 2) else {
+        return 0;
+    };
+    (0..repeats)
+        .filter(|k| look_up(l, cam_key(scattered(*k))))
+        .count() as u64
 }
 
-// How many of the searches that are left are asked in one round: at most 1000.
-fn round_length(left: u64) -> u64
-    requires { 0 < left }
-    ensures { (0 < result) × ((result ≤ 1000) × (result ≤ left)) }
-{
-    if 1000 < left {
-        return 1000;
-    }
-    left
-}
+// How many searches are asked in one round at most.
+const ROUND: u64 = 1000;
 
 // A round of two keys; each round has others.
-fn round_of(k: u64, length: u64) -> Round
+fn round_of(i: u64, length: u64) -> Round
     requires { length ≤ 1000 }
     ensures { (result.left ≡ length) × (result.sum ≡ 0) }
 {
-    let n = k / 1000 % KEYS;
+    let n = i % KEYS;
     Round {
         next: cam_key(scattered(n)),
         after: cam_key(n),
@@ -463,12 +334,11 @@ fn round_of(k: u64, length: u64) -> Round
 }
 
 // A round of searches in a list that was tested before; whether the places found are places of the list.
-fn search_round(l: FileList, k: u64, length: u64) -> bool
+fn search_round(l: FileList, i: u64, length: u64) -> bool
     requires { (well_list 2 l ≡ true) × (length ≤ 1000) }
 {
-    let files = l.files;
     let n = l.count;
-    let sum = bench_loops::find_many(files, n, round_of(k, length));
+    let sum = bench_loops::find_many(l.files, n, round_of(i, length));
     sum <= n % 1000 * 1000
 }
 
@@ -477,21 +347,20 @@ fn search_rounds(l: FileList, repeats: u64) -> u64
     requires { well_list 2 l ≡ true }
 {
     let mut done: u64 = 0;
-    let mut k: u64 = 0;
-    while k < repeats {
-        let length = round_length(repeats - k);
-        if search_round(l, k, length) {
-            done = (done + length) % 1000000000;
+    for i in 0..repeats.div_ceil(ROUND) {
+        let length = (repeats - i * ROUND).min(ROUND);
+        if search_round(l, i, length) {
+            done += length;
         }
-        k += length;
     }
     done
 }
 
 // A lookup by halves in level 2, so many times; the list is tested once.
 fn bench_search(files: u64, repeats: u64) -> u64 {
-    let s = filled(files, SMALL);
-    let l = level_two(s);
+    let Ok(l) = level_list::level_files(filled(files, SMALL), 2) else {
+        return 0;
+    };
     if level_list::is_well_formed(2, l) {
         return search_rounds(l, repeats);
     }
@@ -503,41 +372,34 @@ fn bench_base(files: u64, repeats: u64) -> u64 {
     let s = filled(files, SMALL);
     let mut memory = compact_base::nothing_asked();
     let mut done: u64 = 0;
-    let mut k: u64 = 0;
-    while k < repeats {
+    for k in 0..repeats {
         let u = keys::user_key(cam_key(rising(k, repeats)));
-        let b = compact_base::is_base_level_for(s, 1, memory, u);
-        let o = b.outcome;
-        memory = b.memory;
-        if is_done(o) {
-            done = (done + 1) % 1000000000;
+        if let Ok(b) = compact_base::is_base_level_for(s, 1, memory, u) {
+            memory = b.memory;
+            done += 1;
         }
-        k += 1;
     }
     done
 }
 
-// What a manual pick at level 1 of the whole range takes: all files of the store.
-fn picked_of(files: u64) -> Picked {
+// What a manual pick at level 1 of the whole range gives: it takes all files of the store.
+fn picked_of(files: u64) -> Result<Pick, Refusal> {
     let s = filled(files, SMALL);
-    let p = pick::compact_range(s, MAXIMUM, 1, cam_key(0), cam_key(9999));
-    p.picked
+    pick::compact_range(s, MAXIMUM, 1, cam_key(0), cam_key(9999))
 }
 
 // A key put to the cutter of a pick, so many times.
 fn bench_cut(files: u64, repeats: u64) -> u64 {
-    let c = picked_of(files);
+    let Ok(p) = picked_of(files) else {
+        return 0;
+    };
     let mut memory = compact_cutter::fresh_cutter();
     let mut done: u64 = 0;
-    let mut k: u64 = 0;
-    while k < repeats {
-        let r = compact_cutter::step(c, memory, cam_key(rising(k, repeats)));
-        let o = r.outcome;
-        memory = r.memory;
-        if is_done(o) {
-            done = (done + 1) % 1000000000;
+    for k in 0..repeats {
+        if let Ok(cut) = compact_cutter::step(p.picked, memory, cam_key(rising(k, repeats))) {
+            memory = cut.memory;
+            done += 1;
         }
-        k += 1;
     }
     done
 }
@@ -547,8 +409,7 @@ fn advanced(c: Picked, memory: Cutter, key: Key) -> Cutter
     requires { well_picked c ≡ true }
 {
     if compact_cutter::is_good_memory(c, memory) {
-        let r = compact_cutter::advance(c, memory, key);
-        return r.memory;
+        return compact_cutter::advance(c, memory, key).memory;
     }
     memory
 }
@@ -559,22 +420,22 @@ fn steps(c: Picked, repeats: u64) -> u64
 {
     let mut memory = compact_cutter::fresh_cutter();
     let mut done: u64 = 0;
-    let mut k: u64 = 0;
-    while k < repeats {
+    for k in 0..repeats {
         memory = advanced(c, memory, cam_key(rising(k, repeats)));
         if memory.seen {
-            done = (done + 1) % 1000000000;
+            done += 1;
         }
-        k += 1;
     }
     done
 }
 
 // A key put to the cutter of a pick that was tested once, so many times.
 fn bench_advance(files: u64, repeats: u64) -> u64 {
-    let c = picked_of(files);
-    if pick_answer::is_well_formed(c) {
-        return steps(c, repeats);
+    let Ok(p) = picked_of(files) else {
+        return 0;
+    };
+    if pick_answer::is_well_formed(p.picked) {
+        return steps(p.picked, repeats);
     }
     0
 }
@@ -584,13 +445,11 @@ fn bases(s: Store, repeats: u64) -> u64
     requires { well_store s ≡ true }
 {
     let mut others: u64 = 0;
-    let mut k: u64 = 0;
-    while k < repeats {
+    for k in 0..repeats {
         let u = keys::user_key(cam_key(rising(k, repeats)));
         if !compact_base::is_base_level(s, 1, u) {
-            others = (others + 1) % 1000000000;
+            others += 1;
         }
-        k += 1;
     }
     others
 }
@@ -669,12 +528,12 @@ fn run(word: &[u8], n: usize, files: u64, repeats: u64) -> u64 {
     run_more(word, n, files, repeats)
 }
 
-// OPERATION FILES REPEATS.
+// OPERATION FILES REPEATS. Prints the last nine digits of how many were done.
 fn main(rt: HostRuntime) {
     let mut word = io::buffer();
     let n = lay_arg(&rt, 1, &mut word);
     let files = arg_number(&rt, 2);
     let repeats = arg_number(&rt, 3);
-    io::print_decimal(1, run(&word, n, files, repeats));
+    io::print_decimal(1, run(&word, n, files, repeats) % 1000000000);
     io::write_all(1, b"\n");
 }

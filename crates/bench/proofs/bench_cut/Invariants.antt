@@ -1,0 +1,6 @@
+-- The count of `bench_cut` is at most how many were asked. Assumes nothing.
+use Rattle.std.proofs.Common.{◌≤◌}
+use Rattle.bench.proofs.bench_cut.Given as goal
+
+abbrev pub invariant-loop-k : goal.invariant-loop-k
+invariant-loop-k l = l.done ≤ l.k
