@@ -10,7 +10,7 @@ use store::Store;
 
 // Whether a command asks about one level.
 fn is_of_level(which: u8) -> bool {
-    (which == b'f') | (which == b'b') | (which == b'g')
+    matches!(which, b'f' | b'b' | b'g')
 }
 
 // The answer of a command, which is named by a letter.

@@ -11,10 +11,7 @@ use store::Pointer;
 
 // Whether a pick's cause is manual.
 fn is_manual(c: Cause) -> bool {
-    match c {
-        Cause::Size(_) => false,
-        Cause::Manual => true,
-    }
+    matches!(c, Cause::Manual)
 }
 
 // A pick's level and cause.
@@ -27,10 +24,7 @@ fn put_cause(out: &mut [u8], level: usize, manual: bool) -> usize {
 
 // Whether a pick is a trivial move.
 fn is_trivial(c: Picked) -> bool {
-    match pick_answer::is_trivial_move(c) {
-        Ok(trivial) => trivial,
-        Err(_) => false,
-    }
+    matches!(pick_answer::is_trivial_move(c), Ok(true))
 }
 
 // The inputs and the grandparents of a pick.
