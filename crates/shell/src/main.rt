@@ -1,9 +1,7 @@
 // shell: reads a script on standard input and prints one answer line for each command.
 #![tactic(auto)]
 
-ghost use Rattle.std.specs.Prelude.{◌≤◌, length};
-
-use shell_answer::Begun;
+use shell_answer::{Begun, Command};
 use shell_machine::Machine;
 use std::io::Read;
 use std::rt::Files;
@@ -20,7 +18,7 @@ fn print(out: &mut [u8], at: usize) {
         return;
     }
     if end <= out.len() {
-        io::write_all(1, &out[0..end]);
+        io::write_all(1, &out[..end]);
     }
 }
 
@@ -46,53 +44,48 @@ fn put_still<R: Files>(
     kept: &mut [u8],
     s: Store,
     line: &[u8],
-    c: Begun,
+    c: Command,
 ) -> usize {
-    if c.group == b'p' {
-        return c.at;
-    }
     if c.group == b'd' {
         return shell_difference::put_answer(out, kept, line, c.which);
     }
     if c.group == b'w' {
         return put_written(rt, out, kept, s, line, c.which);
     }
-    shell_answer::put_asked(out, s, line, c.group, c.which)
+    shell_answer::put_asked(out, s, line, c)
 }
 
 // Answers a line.
 fn answer<R: Files>(rt: &R, out: &mut [u8], kept: &mut [u8], m: Machine, line: &[u8]) -> Machine {
-    let c = shell_answer::begin(out, line);
-    if c.group == 0 {
-        return m;
+    match shell_answer::begin(out, line) {
+        Begun::Silent => m,
+        Begun::Laid(at) => {
+            print(out, at);
+            m
+        }
+        Begun::Asks(c) => {
+            let at = put_still(rt, out, kept, m.store, line, c);
+            print(out, at);
+            m
+        }
+        Begun::Turns(c) => {
+            let after = shell_machine::turn(rt, out, m, line, c.group, c.which);
+            print(out, after.at);
+            after
+        }
     }
-    if c.still {
-        let at = put_still(rt, out, kept, m.store, line, c);
-        print(out, at);
-        return m;
-    }
-    let after = shell_machine::turn(rt, out, m, line, c.group, c.which);
-    print(out, after.at);
-    after
 }
 
-// How many bytes of a line count: without a carriage return at its end. Says so if the line is too long, and then counts none.
-fn front_of(out: &mut [u8], line: &[u8], count: usize) -> usize
-    ensures { result ≤ length line.now }
-{
-    if count == 0 {
-        return 0;
+// The first bytes of a line, without a carriage return at their end. Says so if the line is too long, and then gives none.
+fn front<'a>(out: &mut [u8], line: &'a [u8], count: usize) -> &'a [u8] {
+    match line.get(..count) {
+        Some(whole) => whole.strip_suffix(b"\r").unwrap_or(whole),
+        None => {
+            let at = script_table::put_too_long(out);
+            print(out, at);
+            &[]
+        }
     }
-    let last = count - 1;
-    if line.len() <= last {
-        let at = script_table::put_too_long(out);
-        print(out, at);
-        return 0;
-    }
-    if line[last] == b'\r' {
-        return last;
-    }
-    count
 }
 
 // Answers the line of so many bytes.
@@ -104,8 +97,8 @@ fn take<R: Files>(
     line: &[u8],
     count: usize,
 ) -> Machine {
-    let n = front_of(out, line, count);
-    answer(rt, out, kept, m, &line[0..n])
+    let whole = front(out, line, count);
+    answer(rt, out, kept, m, whole)
 }
 
 // One byte more of a line. If there is no room, only the count grows, up to one past the room.
@@ -129,8 +122,7 @@ fn main(rt: HostRuntime) {
     let mut n: usize = 0;
     let mut block = io::large_buffer();
     let mut input = rt.stdin();
-    let mut turns: u64 = 18446744073709551615;
-    while 0 < turns {
+    for _ in 0..u64::MAX {
         let count = match input.read(&mut block) {
             Ok(got) => got,
             Err(_) => 0,
@@ -141,17 +133,13 @@ fn main(rt: HostRuntime) {
             }
             return;
         }
-        let mut i: usize = 0;
-        while i < count {
-            let b = block[i];
-            if b == b'\n' {
+        for b in &block[..count] {
+            if *b == b'\n' {
                 m = take(&rt, &mut out, &mut kept, m, &line, n);
                 n = 0;
             } else {
-                n = push(&mut line, n, b);
+                n = push(&mut line, n, *b);
             }
-            i += 1;
         }
-        turns -= 1;
     }
 }
