@@ -1,5 +1,5 @@
 -- The plan of a pick, its result, and the store that it leaves. Assumes nothing.
-use Rattle.std.specs.Prelude.{ℕ, ◌<◌, ◌≡◌, Bool, true, List, [], ◌∷◌, set, Result, Ok, Err, IfOk}
+use Rattle.std.specs.Prelude.{ℕ, ◌<◌, ◌≡◌, Bool, true, cond, List, [], ◌∷◌, eqb, set, Result, Ok, Err, IfOk}
 use Rattle.lemmas.specs.Lists.{is_empty}
 use Rattle.model.specs.Answer.{Answer, gives, refused, ◌⇒◌, first_of}
 use Rattle.model.specs.File.{full, last_level}
@@ -75,9 +75,9 @@ pub record Makes (s : Store) (a : Answer model.Pick) (c : Picked) (ps : List Poi
   pub left : with_pointers s ps ≡ left_by s a
 
 -- ---- at the end of the searches
--- the level's pointer becomes the first inputs' largest key
+-- the level's pointer becomes the first inputs' largest key, if there are any
 unfoldable pub pointers_by : List Pointer → Choice → List Pointer
-pointers_by ps c = set ps c.level (record { set = true; key = key_record (key_of c.first.ends.high) })
+pointers_by ps c = cond (eqb c.first.count 0) ps (set ps c.level (record { set = true; key = key_record (key_of c.first.ends.high) }))
 
 -- the answer with the chosen files
 unfoldable pub taken_by : Cause → Choice → List FileRecord → Picked

@@ -1,7 +1,7 @@
 -- Laws of a pick's plan and of what it leaves: refused, accepted, and at the end of its searches. Assumes nothing.
 use Rattle.std.specs.Prelude.{ℕ, ◌+◌, ◌<◌, ◌≡◌, true, false, Ok, Err}
 use Rattle.std.proofs.Math.Path.{sym, ap}
-use Rattle.std.proofs.Common.{subst, ◌∙◌, arith}
+use Rattle.std.proofs.Common.{subst, ◌∙◌, arith, ne_eqb}
 use mathlib.Core.List.{List}
 use Rattle.model.specs.Answer.{Answer, gives, refused, ◌⇒◌, first_of}
 use Rattle.model.specs.File.{full, set_pointer, last_level}
@@ -85,7 +85,7 @@ module _ (s : Store) (x : Cause) (a : Choice) (k : ℕ) (c : Choice) (g : Choose
           let high = (stands.first_sums (omega arith)).high in
           record {
             taken = λ i. Ok (record { level = c.level; cause = cause i; maximum = c.maximum; files = laid_choice s c; first = one i; second = two i; grand = three i });
-            left = pointer_set s q h c.level (key_of c.first.ends.high) ∙ ap (λ (y : List ℕ). store_of (set_pointer (state_of s) c.level y)) high;
+            left = rw (ne_eqb c.first.count 0 some) (pointer_set s q h c.level (key_of c.first.ends.high)) ∙ ap (λ (y : List ℕ). store_of (set_pointer (state_of s) c.level y)) high;
           }
 
       -- some first inputs: the answer is the pick from its first search on, and the pointers are those that the pick leaves

@@ -261,11 +261,14 @@ pub fn range_plan(
     range_planned(well, maximum, level, start, stop)
 }
 
-// The pointers after a pick: the level's becomes the first inputs' largest key. Internal. Requires: the level is one of the seven.
+// The pointers after a pick: the level's becomes the first inputs' largest key, if there are any. Internal. Requires: the level is one of the seven.
 pub fn pointed(pointers: [Pointer; Level::COUNT], c: Choice) -> [Pointer; Level::COUNT]
     requires { c.level < level_count }
     ensures { result ≡ pointers_by pointers c }
 {
+    if c.first.count == 0 {
+        return pointers;
+    }
     let key = keys::kept(c.first.ends.high);
     let mut after = pointers;
     after[c.level] = Pointer { set: true, key };

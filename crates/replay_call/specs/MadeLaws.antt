@@ -50,7 +50,7 @@ use Rattle.store_numbers.specs.declared.Handed.{Handed}
 use Rattle.store_numbers.specs.Numbering.{handed_record, handed}
 use Rattle.replay_given.specs.Given.{said_by, plain_given, handed_given, picked_given, is_number, can_tell}
 use Rattle.replay_call.specs.NumberLaws.{level_number}
-use Rattle.replay_call.specs.KnownLaws.{Told, edit_told, counter_told, new_told, size_told, range_told}
+use Rattle.answers_told.specs.ToldLaws.{Told, edit_told, counter_told, new_told, size_told, range_told}
 use Rattle.replay_call.specs.Call.{pointing_record, deletion_record, addition_record, log_record, filled, edit_record, count_of, counted_by}
 
 -- ---- an edit as code has it

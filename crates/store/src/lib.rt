@@ -1,4 +1,4 @@
-// The store by value: files level by level, pointers and counters. Checks whether a store is well-formed, and returns it unchanged with a refusal.
+// The store by value: files level by level, pointers and counters. Checks whether a store is well-formed.
 #![tactic(auto)]
 
 ghost use Rattle.std.specs.Prelude.{◌≡◌, ◌&&◌, ◌≤◌, ◌<◌, get_or};
