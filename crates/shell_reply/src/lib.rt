@@ -96,7 +96,7 @@ pub fn put_said(out: &mut [u8], said: Said) -> usize
         Said::Mark(b) => script_lines::put_byte(out, 0, b),
         Said::Number(n) => script_lines::put_number(out, 0, n),
         Said::Next(n) => put_next(out, n),
-        Said::Denied(r) => script_lines::put_refused(out, 0, r),
+        Said::Denied(r) => script_lines::put_refused(out, 0, r.number()),
     }
 }
 
