@@ -2,7 +2,6 @@
 use Rattle.std.proofs.Common.{◌≡◌, ℕ, ◌+◌, ◌≤◌, true, length, ap, Result, Ok, arith}
 use Rattle.model.specs.Answer.{gives}
 use Rattle.model_replay.specs.Given.{picked, choice_of}
-use Rattle.answers.specs.declared.Refusal.{Refusal}
 use Rattle.pick_answer.specs.declared.Picked.{Picked}
 use Rattle.pick_answer.specs.Picked.{picked_of, well_picked}
 use Rattle.replay_given.specs.Given.{picked_given, given_bytes, why_bytes, lists_bytes, is_number, can_tell}
@@ -10,11 +9,11 @@ use Rattle.replay_given.specs.GivenLaws.{refused_given, picked_given_lem, picked
 use Rattle.replay_given.proofs.put_picked.Goals as goal
 
 -- an accepted pick: what was picked
-done : (o : Result Picked Refusal) (c : Picked) → o ≡ Ok c → given_bytes (picked_given o) ≡ given_bytes (gives (picked (choice_of (picked_of c))))
+done : (o : Result Picked ℕ) (c : Picked) → o ≡ Ok c → given_bytes (picked_given o) ≡ given_bytes (gives (picked (choice_of (picked_of c))))
 done o c e = ap given_bytes (picked_given_lem o c e)
 
 -- it is well-formed and its score a number, and what has room for it has room for its parts
-told : (o : Result Picked Refusal) (c : Picked) (at n : ℕ) → o ≡ Ok c → (can_tell o ≡ true) × (at + length (given_bytes (picked_given o)) ≤ n)
+told : (o : Result Picked ℕ) (c : Picked) (at n : ℕ) → o ≡ Ok c → (can_tell o ≡ true) × (at + length (given_bytes (picked_given o)) ≤ n)
     → (well_picked c ≡ true) × (is_number c.cause ≡ true) × (at + 17 + length (why_bytes c.cause) + length (lists_bytes c) ≤ n)
 told o c at n e h =
     let t = can_tell_says o c e h.0 in
@@ -52,7 +51,7 @@ put_lists-requires c =
 
 pub put_refused-requires : goal.put_refused-requires
 put_refused-requires c =
-    let n = ap length (refused_given (λ (x : Picked). picked (choice_of (picked_of x))) c.args.o c.in-Err.r c.in-Err.is) in
+    let n = ap length (refused_given (λ (x : Picked). picked (choice_of (picked_of x))) c.args.o c.in-Err.n c.in-Err.is) in
     omega (arith, n, c.requires.1)
 
 pub returns-in-Ok : goal.returns-in-Ok
@@ -67,4 +66,4 @@ returns-in-Ok c =
     (rw e at c.requires.1) c.put_number.ensures c.put_number-in-Ok.ensures w.ensures.1 w.ensures.0 c.put_number-in-Ok-2.ensures l.ensures.1 l.ensures.0)
 
 pub returns-in-Err : goal.returns-in-Err
-returns-in-Err c = rw (refused_given (λ (x : Picked). picked (choice_of (picked_of x))) c.args.o c.in-Err.r c.in-Err.is) c.put_refused.ensures
+returns-in-Err c = rw (refused_given (λ (x : Picked). picked (choice_of (picked_of x))) c.args.o c.in-Err.n c.in-Err.is) c.put_refused.ensures
