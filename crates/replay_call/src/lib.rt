@@ -189,7 +189,7 @@ fn make_edit(s: Store, src: &[u8], at: usize, room: &mut [u8]) -> Made
         },
         Err(r) => Made {
             store: s,
-            length: replay_given::put_plain(room, 0, Err(r)),
+            length: replay_given::put_plain(room, 0, Err(r.number())),
         },
     }
 }
@@ -202,11 +202,11 @@ fn make_size(s: Store, maximum: u64, room: &mut [u8]) -> Made
     match pick::pick_compaction(s, maximum) {
         Ok(p) => Made {
             store: p.store,
-            length: replay_given::put_picked(room, 0, Ok(p.picked)),
+            length: replay_given::put_pick(room, 0, p.picked),
         },
         Err(r) => Made {
             store: s,
-            length: replay_given::put_picked(room, 0, Err(r)),
+            length: replay_given::put_plain(room, 0, Err(r.number())),
         },
     }
 }
@@ -222,11 +222,11 @@ fn make_range(s: Store, maximum: u64, src: &[u8], at: usize, room: &mut [u8]) ->
     match pick::compact_range(s, maximum, level as usize, start.key, stop.key) {
         Ok(p) => Made {
             store: p.store,
-            length: replay_given::put_picked(room, 0, Ok(p.picked)),
+            length: replay_given::put_pick(room, 0, p.picked),
         },
         Err(r) => Made {
             store: s,
-            length: replay_given::put_picked(room, 0, Err(r)),
+            length: replay_given::put_plain(room, 0, Err(r.number())),
         },
     }
 }
@@ -265,7 +265,7 @@ fn make_count(s: Store, src: &[u8], at: usize, room: &mut [u8]) -> Made
             },
             Err(r) => Made {
                 store: s,
-                length: replay_given::put_handed(room, 0, Err(r)),
+                length: replay_given::put_handed(room, 0, Err(r.number())),
             },
         };
     }
@@ -277,7 +277,7 @@ fn make_count(s: Store, src: &[u8], at: usize, room: &mut [u8]) -> Made
         },
         Err(r) => Made {
             store: s,
-            length: replay_given::put_plain(room, 0, Err(r)),
+            length: replay_given::put_plain(room, 0, Err(r.number())),
         },
     }
 }

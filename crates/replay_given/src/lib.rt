@@ -1,7 +1,7 @@
 // The answers of calls as a record keeps them: their bytes, laid in lent output.
 #![tactic(auto)]
 
-ghost use Rattle.std.specs.Prelude.{◌≡◌, true, false, ◌+◌, ◌≤◌, length};
+ghost use Rattle.std.specs.Prelude.{◌≡◌, true, false, ◌+◌, ◌≤◌, length, Ok};
 ghost use Rattle.lemmas.specs.Slices.{put};
 ghost use Rattle.model.specs.Answer.{refused};
 ghost use Rattle.std.specs.Float.{binary64};
@@ -37,12 +37,7 @@ fn put_refused(out: &mut [u8], at: usize, n: u8) -> usize
     ensures { (result ≡ at + length (given_bytes (refused n))) × (out.new ≡ put out.old at (given_bytes (refused n))) }
 {
     snapshot_parts::put_number(out, at, Snapshot::BYTE, Record::REFUSED);
-    snapshot_parts::put_number(
-        out,
-        at + Snapshot::BYTE,
-        Snapshot::BYTE,
-        u64::from(n),
-    );
+    snapshot_parts::put_number(out, at + Snapshot::BYTE, Snapshot::BYTE, u64::from(n));
     at + Snapshot::BYTE + Snapshot::BYTE
 }
 
@@ -89,8 +84,8 @@ pub fn is_number(c: Cause) -> bool
 pub fn can_tell(o: Result<Picked, u8>) -> bool
     ensures { result ≡ can_tell o }
 {
-    match o {
-        Ok(c) => pick_answer::is_well_formed(c) && is_number(c.cause),
+    match &o {
+        Ok(c) => pick_answer::is_well_formed(*c) && is_number(c.cause),
         Err(_) => true,
     }
 }
@@ -142,19 +137,25 @@ fn put_lists(out: &mut [u8], at: usize, c: Picked) -> usize
     next
 }
 
+// Lays what was picked. Returns the place after it. Internal. Requires: it can be kept, and the output has these places.
+pub fn put_pick(out: &mut [u8], at: usize, c: Picked) -> usize
+    requires { (can_tell (Ok c) ≡ true) × (at + length (given_bytes (picked_given (Ok c))) ≤ length out.old) }
+    ensures { (result ≡ at + length (given_bytes (picked_given (Ok c)))) × (out.new ≡ put out.old at (given_bytes (picked_given (Ok c)))) }
+{
+    snapshot_parts::put_number(out, at, Snapshot::BYTE, Record::PICKED);
+    snapshot_parts::put_number(out, at + Snapshot::BYTE, Snapshot::NUMBER, c.level as u64);
+    let why = put_why(out, at + Given::SHORT, c.cause);
+    snapshot_parts::put_number(out, why, Snapshot::NUMBER, c.maximum);
+    put_lists(out, why + Snapshot::NUMBER, c)
+}
+
 // Lays the answer of a pick. Returns the place after it. Internal. Requires: it can be kept, and the output has these places.
 pub fn put_picked(out: &mut [u8], at: usize, o: Result<Picked, u8>) -> usize
     requires { (can_tell o ≡ true) × (at + length (given_bytes (picked_given o)) ≤ length out.old) }
     ensures { (result ≡ at + length (given_bytes (picked_given o))) × (out.new ≡ put out.old at (given_bytes (picked_given o))) }
 {
-    match o {
-        Ok(c) => {
-            snapshot_parts::put_number(out, at, Snapshot::BYTE, Record::PICKED);
-            snapshot_parts::put_number(out, at + Snapshot::BYTE, Snapshot::NUMBER, c.level as u64);
-            let why = put_why(out, at + Given::SHORT, c.cause);
-            snapshot_parts::put_number(out, why, Snapshot::NUMBER, c.maximum);
-            put_lists(out, why + Snapshot::NUMBER, c)
-        }
-        Err(n) => put_refused(out, at, n),
+    match &o {
+        Ok(c) => put_pick(out, at, *c),
+        Err(n) => put_refused(out, at, *n),
     }
 }
