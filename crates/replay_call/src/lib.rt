@@ -199,7 +199,7 @@ fn make_size(s: Store, maximum: u64, room: &mut [u8]) -> Made
     requires { (well_store s ≡ true) × (longest_given ≤ length room.old) }
     ensures { (result ≡ made_by s (picks_size maximum)) × (room.new ≡ answered s (picks_size maximum) room.old) }
 {
-    match pick::pick_compaction(s, maximum) {
+    match &pick::pick_compaction(s, maximum) {
         Ok(p) => Made {
             store: p.store,
             length: replay_given::put_pick(room, 0, p.picked),
@@ -219,7 +219,7 @@ fn make_range(s: Store, maximum: u64, src: &[u8], at: usize, room: &mut [u8]) ->
     let level = snapshot_parse::get_number(src, at, Snapshot::NUMBER);
     let start = key_at(src, at + Snapshot::NUMBER);
     let stop = key_at(src, start.next);
-    match pick::compact_range(s, maximum, level as usize, start.key, stop.key) {
+    match &pick::compact_range(s, maximum, level as usize, start.key, stop.key) {
         Ok(p) => Made {
             store: p.store,
             length: replay_given::put_pick(room, 0, p.picked),

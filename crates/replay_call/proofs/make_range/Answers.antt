@@ -1,5 +1,5 @@
 -- `make_range` meets its contract. Assumes nothing.
-use Rattle.std.proofs.Common.{◌≡◌, ℕ, ◌+◌, true, List, [], drop, Result, Ok, Err}
+use Rattle.std.proofs.Common.{◌≡◌, ℕ, ◌+◌, true, List, [], drop, Result, Ok, Err, sym, ◌∙◌}
 use Rattle.model.specs.Snapshot.{number_long, read_key}
 use Rattle.model.specs.File.{full}
 use Rattle.model.specs.Pick.{manual_pick}
@@ -45,7 +45,7 @@ put_pick-requires c =
     let a = c.args in
     let p = c.in-Ok.p in
     let m = made a.s (shape a.s _ c.well_formed.0) c.requires.0 a.src.now a.at a.maximum c.get_number-level.result c.requires.1 c.get_number-level.ensures c.key_at-start.result c.key_at-stop.result c.key_at-start.ensures c.key_at-stop.ensures
-    (Ok p) c.in-Ok.ensures in
+    (Ok p) (sym c.in-Ok.is ∙ c.compact_range.ensures) in
     (m.tells, picked_fits (Ok p.picked) a.room.now m.tells c.requires.2)
 
 pub put_plain-requires : goal.put_plain-requires
@@ -56,7 +56,7 @@ returns-in-Ok c =
     let a = c.args in
     let p = c.in-Ok.p in
     let m = made a.s (shape a.s _ c.well_formed.0) c.requires.0 a.src.now a.at a.maximum c.get_number-level.result c.requires.1 c.get_number-level.ensures c.key_at-start.result c.key_at-stop.result c.key_at-start.ensures c.key_at-stop.ensures
-    (Ok p) c.in-Ok.ensures in
+    (Ok p) (sym c.in-Ok.is ∙ c.compact_range.ensures) in
     made_laid a.s (range_in a.maximum (drop a.at a.src.now)) p.store (picked_given (Ok p.picked)) a.room.now c.put_pick.new.out c.put_pick.result m.made c.put_pick.ensures
 
 pub returns-in-Err : goal.returns-in-Err
@@ -65,5 +65,5 @@ returns-in-Err c =
     let a = c.args in
     let r = c.in-Err.r in
     let m = made a.s (shape a.s _ c.well_formed.0) c.requires.0 a.src.now a.at a.maximum c.get_number-level.result c.requires.1 c.get_number-level.ensures c.key_at-start.result c.key_at-stop.result c.key_at-start.ensures c.key_at-stop.ensures
-    (Err r) c.in-Err.ensures in
+    (Err r) (sym c.in-Err.is ∙ c.compact_range.ensures) in
     made_laid a.s (range_in a.maximum (drop a.at a.src.now)) a.s (plain_given (Err (number_of r))) a.room.now c.put_plain.new.out c.put_plain.result m.made (rw c.number.ensures at c.put_plain.ensures)
