@@ -136,7 +136,11 @@ pub fn put_column(out: &mut [u8], start: usize, column: &[u64]) -> usize
 pub fn numbers_of(files: [FileRecord; Version::ROOM]) -> [u64; Version::ROOM]
     ensures { result ≡ map number_of files }
 {
-    files.map(|f| f.number.0)
+    let mut column = [0u64; Version::ROOM];
+    for (n, f) in files.iter().enumerate() {
+        column[n] = f.number.0;
+    }
+    column
 }
 
 // The numbers of the records from a place up to another, joined by commas; `-` for none.
