@@ -3,7 +3,7 @@ use Rattle.std.specs.Prelude.{ℕ, ◌≡◌, refl, Bool, true, false, cond, Lis
 use Rattle.std.proofs.Common.{subst}
 use Rattle.lemmas.specs.Order.{clash}
 use Rattle.model.specs.Key.{Key}
-use Rattle.model.specs.Answer.{Answer, gives, refused, Refusal, ◌⇒◌, first_of}
+use Rattle.model.specs.Answer.{Answer, gives, refused, on_answer, Refusal, ◌⇒◌, first_of}
 use Rattle.model.specs.File.{File, State, full}
 use Rattle.model.specs.Edit.{Pointer, Deletion, Addition, Edit, pointer_refusals, deletion_refusals, addition_refusals, entry_refusals, result_refusals, survivors_from, edit}
 use Rattle.model.specs.Counters.{CounterCall, counter}
@@ -11,9 +11,12 @@ use Rattle.model.specs.Calls.{compare_keys, parse_key, new_number, lent_list, to
 use Rattle.model.specs.Pick.{Picked, size_pick, manual_pick}
 use Rattle.model.specs.Question.{Cutter}
 use Rattle.model.specs.Snapshot.{decode}
+use Rattle.model_replay.specs.Recording.{Recording, read_recording}
+use Rattle.model_replay.specs.Replay.{Outcome, ended, differs, replayed_from, concluded, replay_of, replay}
 use Rattle.std.proofs.Math.Option.{Option, none, some}
 use Rattle.answers.specs.Outcome.{number_of, refusal_of, outcome_of, result_of}
 use Rattle.answers.specs.declared.Refusal as code
+use Rattle.level_list.specs.List.{level_files}
 
 -- the number is one of the table
 abbrev pub Known : ℕ → Type 0
@@ -212,3 +215,31 @@ read_told bs = go (decode full bs)
     go : (o : Option State) → Told (or_bad o)
     go none = refused_told 14 refl
     go (some t) = λ n e. let z : true ≡ false = cc in clash refl z
+
+-- the files of a level
+pub files_told : (t : State) (n : ℕ) → Told (level_files t n)
+unfolding level_files ◌⇒◌
+files_told t n = first_told _ _ (refl, (refl, tt))
+
+-- ---- recorded days
+-- an answer that says something else of the same result
+said_told : {A B : Type 0} (f : A → B) (a : Answer A) → Told a → Told (on_answer f a)
+unfolding on_answer
+said_told f (gives x) h n e = let z : true ≡ false = cc in clash refl z
+said_told f (refused m) h n e = refused_told m (h m refl) n e
+
+-- what a replay comes to: a difference, or a snapshot written
+concluded_told : (o : Outcome State) (room : ℕ) → Told (concluded full room o)
+unfolding concluded
+concluded_told (ended t) room = said_told (λ (bs : List ℕ). ended bs) (write full t room) (write_told t room)
+concluded_told (differs d) room = λ n e. let z : true ≡ false = cc in clash refl z
+
+-- a replay
+pub replay_told : (snapshot recording : List ℕ) (room : ℕ) → Told (replay full snapshot recording room)
+unfolding replay replay_of
+replay_told snapshot recording room = go (decode full snapshot) (read_recording recording)
+  where
+    go : (o : Option State) (r : Option Recording) → Told (replay_of full room o r)
+    go none r = refused_told 14 refl
+    go (some t) none = refused_told 15 refl
+    go (some t) (some r) = concluded_told (replayed_from full t r) room

@@ -8,6 +8,13 @@ use compact_cutter::Cutter;
 use keys::Key;
 use pick_answer::Picked;
 
+// What a step on lent memory answers, and the memory after it. After a refusal that is the one before.
+#[derive(Clone, Copy)]
+pub struct Stepped {
+    pub told: Result<bool, Refusal>,
+    pub memory: Cutter,
+}
+
 // Whether to cut before a key. The lent memory is changed in place. After a refusal it is as it was.
 pub fn should_stop_before(c: Picked, m: &mut Cutter, k: Key) -> Result<bool, Refusal>
     ensures { Stops c m.old k result m.new }

@@ -106,7 +106,7 @@ fn accepted(s: Store, e: Edit, p: EditPlan, files: [FileRecord; Version::ROOM]) 
     }
 }
 
-// Applies one edit to one store. It changes nothing before the build has succeeded. Each refusal has its own return, so that the store is copied once.
+// Applies one edit to one store. It changes nothing before the build has succeeded. A refusal gives no store: the caller has it.
 pub fn apply(s: Store, e: Edit) -> Result<Store, Refusal>
     ensures { result ≡ stored (on_store s (λ t. model.edit full t (edit_of e))) }
 {

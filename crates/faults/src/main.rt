@@ -4,7 +4,7 @@
 
 use answers::Refusal;
 use compact_base::Asked;
-use compact_cutter::{Cut, Cutter};
+use compact_cutter::Cutter;
 use counters::Counters;
 use edit::{Deletion, Edit};
 use keys::{FileNumber, Key, SequenceNumber, UserKey};
@@ -253,7 +253,7 @@ fn put_told(out: &mut [u8], at: usize, t: Told) -> usize {
     match t {
         Ok(Some(n)) => script_lines::put_number(out, at, n),
         Ok(None) => script_lines::put(out, at, b"none"),
-        Err(r) => script_lines::put_refused(out, at, r),
+        Err(r) => script_lines::put_refused(out, at, r.number()),
     }
 }
 
@@ -428,26 +428,25 @@ fn columns(h: Hand, levels: usize, numbers: usize) {
     tell_columns(counted(c), &ls, &ns)
 }
 
-// Prints an answer of the cutter, and its memory: that before the key, if it was refused.
-fn tell_step(r: Result<Cut, Refusal>, before: Cutter) {
-    let m = match r {
-        Ok(c) => c.memory,
-        Err(_) => before,
-    };
+// Prints an answer of the cutter, and the memory after it.
+fn tell_step(told: Result<bool, Refusal>, m: Cutter) {
     let left = [m.seen as u64, m.place as u64, m.count];
-    tell_left(r.map(|c| Some(c.cut as u64)), &left)
+    tell_left(told.map(|yes| Some(yes as u64)), &left)
 }
 
-// Whether to stop before a key, on memory that is lent.
+// Whether to stop before a key, on memory that is lent: the lent memory is printed, refused or not.
 fn cut(h: Hand, k: Key) {
-    let m = cutter_of(h);
-    tell_step(lend::stopped(picked_of(h), m, k), m)
+    let s = lend::stopped(picked_of(h), cutter_of(h), k);
+    tell_step(s.told, s.memory)
 }
 
-// The same by value.
+// The same by value. If it is refused there is the memory before the key.
 fn step(h: Hand, k: Key) {
-    let m = cutter_of(h);
-    tell_step(compact_cutter::step(picked_of(h), m, k), m)
+    let before = cutter_of(h);
+    match compact_cutter::step(picked_of(h), before, k) {
+        Ok(c) => tell_step(Ok(c.cut), c.memory),
+        Err(r) => tell_step(Err(r), before),
+    }
 }
 
 // ---- lines
@@ -554,14 +553,6 @@ fn next_hand(h: Hand, kept: Hand, line: &[u8], command: usize) -> Hand {
     changed(h, line, command)
 }
 
-// What is kept after a line.
-fn next_kept(h: Hand, kept: Hand, command: usize) -> Hand {
-    if command == 1 {
-        return h;
-    }
-    kept
-}
-
 // Answers a question, with its count before it. Returns how many questions there were.
 fn answered(h: Hand, line: &[u8], before: u64) -> u64 {
     let n = before % 1000000 + 1;
@@ -570,20 +561,20 @@ fn answered(h: Hand, line: &[u8], before: u64) -> u64 {
     n
 }
 
-// One line; lines that begin with # say what follows.
-fn take(t: Table, line: &[u8]) -> Table {
+// One line; lines that begin with # say what follows. The table is lent, so that a line copies no more of it than it changes.
+fn take(t: &mut Table, line: &[u8]) {
     let Some(command) = name(b"new keep back set count file pointer asked ask", line, 0) else {
-        return t;
+        return;
     };
-    let mut n = t.count;
     if command == 8 {
-        n = answered(t.hand, line, n);
+        t.count = answered(t.hand, line, t.count);
+        return;
     }
-    Table {
-        hand: next_hand(t.hand, t.kept, line, command),
-        kept: next_kept(t.hand, t.kept, command),
-        count: n,
+    if command == 1 {
+        t.kept = t.hand;
+        return;
     }
+    t.hand = next_hand(t.hand, t.kept, line, command);
 }
 
 // The lines of a table in turn.
@@ -595,7 +586,7 @@ fn follow(text: &[u8]) {
         count: 0,
     };
     for line in text.split(|b| *b == b'\n') {
-        t = take(t, line);
+        take(&mut t, line);
     }
 }
 

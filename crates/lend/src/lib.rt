@@ -8,10 +8,11 @@ ghost use Rattle.model.specs.Calls as calls;
 ghost use Rattle.answers.specs.Outcome.{answer_of, filling};
 ghost use Rattle.keys.specs.Key.{key_of};
 ghost use Rattle.ask_find.specs.Finding.{on_lent, found_of};
-ghost use Rattle.compact_cutter.specs.Cutter.{stopping, cut_by};
+ghost use Rattle.compact_cutter_lent.specs.Stopping.{Stops};
 
 use answers::Refusal;
-use compact_cutter::{Cut, Cutter};
+use compact_cutter::Cutter;
+use compact_cutter_lent::Stepped;
 use keys::Key;
 use pick_answer::Picked;
 use records::{FileRecord, Version};
@@ -43,11 +44,11 @@ pub fn look_up_of(
     ask_lookup::look_up(level, &files[..n], k, out)
 }
 
-// Whether to cut before a key, and the memory after it. The memory is lent to `should_stop_before`. Internal.
-pub fn stopped(c: Picked, m: Cutter, k: Key) -> Result<Cut, Refusal>
-    ensures { result ≡ cut_by (stopping c m k) }
+// Whether to cut before a key, and the memory after it, refused or not. The memory is lent to `should_stop_before`. Internal.
+pub fn stopped(c: Picked, m: Cutter, k: Key) -> Stepped
+    ensures { Stops c m k result.told result.memory }
 {
     let mut memory = m;
-    let cut = compact_cutter_lent::should_stop_before(c, &mut memory, k)?;
-    Ok(Cut { cut, memory })
+    let told = compact_cutter_lent::should_stop_before(c, &mut memory, k);
+    Stepped { told, memory }
 }

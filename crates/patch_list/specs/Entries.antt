@@ -121,7 +121,14 @@ list_right bs =
     section_right 0 bs && (section_right 1 b && (section_right 2 c && is_empty (after_section 2 c)))
 
 -- ---- what code keeps of an entry
--- it is read at a place of the bytes, and it is right: the place after it, and what it stands by
+-- what an entry at a place of the bytes reads as, right or not: the place after it, what it stands by, and whether it is right
+pub record Read (src : List ℕ) (r : Reading) (e : Entry) (b : Bool) : Type 0 where
+  pub next : At src e.next r.rest
+  pub level : e.level ≡ level_of r.entry
+  pub number : e.number ≡ number_of r.entry
+  pub right : r.right ≡ b
+
+-- an entry that is right, read at a place of the bytes: the place after it, and what it stands by
 pub record Kept (src : List ℕ) (r : Reading) (e : Entry) : Type 0 where
   pub right : r.right ≡ true
   pub next : At src e.next r.rest

@@ -24,7 +24,7 @@ use Rattle.records.specs.RecordLaws.{record_of_sound, file_of_record_of}
 use Rattle.snapshot_parts.specs.LayingLaws.{key_long}
 use Rattle.snapshot_parse.specs.Parsing.{At, number_in, key_length, key_in, after_key, file_in, after_file}
 use Rattle.snapshot_parse.specs.ParsingLaws.{key_in_short}
-use Rattle.patch_list.specs.Entries.{Reading, exact_file, exact_key, number_only, whole_file, file_entry, pointer_entry, counter_entry, level_of, number_of, Kept, Found, last_standing}
+use Rattle.patch_list.specs.Entries.{Reading, exact_file, exact_key, number_only, whole_file, file_entry, pointer_entry, counter_entry, level_of, number_of, Read, Kept, Found, last_standing}
 use Rattle.patch_list.specs.declared.Entry.{Entry}
 
 -- ---- bytes that are compared
@@ -78,6 +78,11 @@ two_fail : (a b : Bool) → (a && (b && false)) ≡ false
 two_fail true b = one_fails b
 two_fail false b = refl
 
+-- ---- what is kept
+-- an entry that reads as a right one is kept
+pub read_kept : (src : List ℕ) (r : Reading) (e : Entry) → Read src r e true → Kept src r e
+read_kept src r e k = record { right = k.right; next = k.next; level = k.level; number = k.number }
+
 -- ---- files
 -- a number that only the left has, of level l
 module _ (src : List ℕ) (at l : ℕ) where
@@ -91,10 +96,20 @@ module _ (src : List ℕ) (at l : ℕ) where
   unfolding number_only
   number_cut h = rw (length-drop at src, lt-leb number_long (length src - at) h) (one_fails (ltb l level_count))
 
-  -- else it is kept, with the number and the place after it
-  pub number_kept : (next n : ℕ) → n ≡ number_in number_long (drop at src) → At src next (drop number_long (drop at src)) → l < level_count → number_long ≤ length src - at → Kept src (number_only l (drop at src)) (record { next = next; level = l; number = n })
+  -- if the level is one, it is right if they are there
+  pub number_right : l < level_count → leb number_long (length src - at) ≡ (number_only l (drop at src)).right
+  unfolding number_only
+  number_right g = rw (lt-ltb l level_count g, length-drop at src)
+
+  -- right or not, it reads as this number, and the place after it is this one
+  pub number_read : (next n : ℕ) → n ≡ number_in number_long (drop at src) → At src next (drop number_long (drop at src)) → (b : Bool) → (number_only l (drop at src)).right ≡ b → Read src (number_only l (drop at src)) (record { next = next; level = l; number = n }) b
   unfolding number_only level_of number_of
-  number_kept next n u e g h = record { right = rw (lt-ltb l level_count g, length-drop at src, le-leb number_long (length src - at) h); next = e; level = refl; number = u }
+  number_read next n u e b t = record { next = e; level = refl; number = u; right = t }
+
+  -- it is kept if it is right
+  pub number_kept : (next n : ℕ) → n ≡ number_in number_long (drop at src) → At src next (drop number_long (drop at src)) → l < level_count → number_long ≤ length src - at → Kept src (number_only l (drop at src)) (record { next = next; level = l; number = n })
+  number_kept next n u e g h =
+      read_kept src (number_only l (drop at src)) (record { next = next; level = l; number = n }) (number_read next n u e true (sym (number_right g) ∙ le-leb number_long (length src - at) h))
 
 -- the record of a file as it is read, and the place after it
 module _ (src : List ℕ) (at next : ℕ) (h : at ≤ length src) (e : At src next (after_file (drop at src))) where
@@ -129,10 +144,10 @@ module _ (src : List ℕ) (at next : ℕ) (h : at ≤ length src) (e : At src ne
       unfolding whole_file exact_file
       file_right g p t = lent_same src at next (after_file (drop at src)) e file_up (write_file (file_of r)) ∙ rw (stands, lt-ltb l level_count g, p, sym well ∙ t)
 
-      -- then it is kept
-      pub file_kept : (whole_file k l (drop at src)).right ≡ true → Kept src (whole_file k l (drop at src)) (record { next = next; level = l; number = r.number.0 })
+      -- right or not, it reads as this file, and the place after it is this one
+      pub file_read : (b : Bool) → (whole_file k l (drop at src)).right ≡ b → Read src (whole_file k l (drop at src)) (record { next = next; level = l; number = r.number.0 }) b
       unfolding whole_file level_of number_of record_of
-      file_kept t = record { right = t; next = e; level = go (eqb k right_kind); number = ap (λ (x : FileRecord). x.number.0) q ∙ of (eqb k right_kind) }
+      file_read b t = record { next = e; level = go (eqb k right_kind); number = ap (λ (x : FileRecord). x.number.0) q ∙ of (eqb k right_kind); right = t }
         where
           go : (t : Bool) → l ≡ level_of (cond t (only_right l (file_in (drop at src))) (changed l (file_in (drop at src))))
           go true = refl
@@ -141,6 +156,10 @@ module _ (src : List ℕ) (at next : ℕ) (h : at ≤ length src) (e : At src ne
           of : (t : Bool) → (file_in (drop at src)).number ≡ number_of (cond t (only_right l (file_in (drop at src))) (changed l (file_in (drop at src))))
           of true = refl
           of false = refl
+
+      -- it is kept if it is right
+      pub file_kept : (whole_file k l (drop at src)).right ≡ true → Kept src (whole_file k l (drop at src)) (record { next = next; level = l; number = r.number.0 })
+      file_kept t = read_kept src (whole_file k l (drop at src)) (record { next = next; level = l; number = r.number.0 }) (file_read true t)
 
 -- ---- pointers
 -- the record of a key as it is read, and the place after it
@@ -184,10 +203,14 @@ module _ (src : List ℕ) (at next : ℕ) (h : at ≤ length src) (e : At src ne
           let whole : (pointer_entry (drop from src)).right ≡ same_bytes (write_key (key_in bs) ++ after_key bs) bs = pointer_is_right ∙ rw (good, lt-ltb l level_count g) in
           lent_same src at next (after_key bs) e key_up (write_key (key_of k)) ∙ rw key_stands (sym whole)
 
-      -- then it is kept
-      pub pointer_kept : (pointer_entry (drop from src)).right ≡ true → Kept src (pointer_entry (drop from src)) (record { next = next; level = l; number = 0 })
+      -- right or not, it reads as a pointer of this level, and the place after it is this one
+      pub pointer_read : (b : Bool) → (pointer_entry (drop from src)).right ≡ b → Read src (pointer_entry (drop from src)) (record { next = next; level = l; number = 0 }) b
       unfolding pointer_entry level_of number_of
-      pointer_kept t = record { right = t; next = record { within = e.within; rest = e.rest ∙ ap after_key v }; level = u; number = refl }
+      pointer_read b t = record { next = record { within = e.within; rest = e.rest ∙ ap after_key v }; level = u; number = refl; right = t }
+
+      -- it is kept if it is right
+      pub pointer_kept : (pointer_entry (drop from src)).right ≡ true → Kept src (pointer_entry (drop from src)) (record { next = next; level = l; number = 0 })
+      pointer_kept t = read_kept src (pointer_entry (drop from src)) (record { next = next; level = l; number = 0 }) (pointer_read true t)
 
 -- the key of no bytes is that of a pointer that is not set
 pub unset_pointer : (k : Key) → k.len ≡ 0 → good_pointer full (pointer_of (key_of k)) ≡ true
@@ -220,16 +243,21 @@ module _ (src : List ℕ) (from at i v : ℕ) (u : i ≡ number_in byte_long (dr
       go (inr (inl k)) = rw k (one_fails (ltb i counter_count))
       go (inr (inr g)) = rw (le-ltb i counter_count g)
 
+  -- if it passes the others, it is right if all its bytes are there
+  pub counter_right : i < counter_count → leb v max_counter ≡ true → leb number_long (length src - at) ≡ (counter_entry (drop from src)).right
+  counter_right g k = sym (counter_is_right ∙ rw (lt-ltb i counter_count g, k))
+
   -- the place after it
   module _ (next : ℕ) (e : At src next (drop number_long (drop at src))) where
-    -- if it is right, it is kept
-    counter_right_kept : (counter_entry (drop from src)).right ≡ true → Kept src (counter_entry (drop from src)) (record { next = next; level = i; number = 0 })
+    -- right or not, it reads as a counter of this place, and the place after it is this one
+    pub counter_read : (b : Bool) → (counter_entry (drop from src)).right ≡ b → Read src (counter_entry (drop from src)) (record { next = next; level = i; number = 0 }) b
     unfolding counter_entry level_of number_of
-    counter_right_kept t = record { right = t; next = record { within = e.within; rest = e.rest ∙ ap (drop number_long) s.rest }; level = u; number = refl }
+    counter_read b t = record { next = record { within = e.within; rest = e.rest ∙ ap (drop number_long) s.rest }; level = u; number = refl; right = t }
 
-    -- so it is if it passes the tests
+    -- it is kept if it is right: it passes the tests
     pub counter_kept : i < counter_count → leb v max_counter ≡ true → number_long ≤ length src - at → Kept src (counter_entry (drop from src)) (record { next = next; level = i; number = 0 })
-    counter_kept g k h = counter_right_kept (counter_is_right ∙ rw (lt-ltb i counter_count g, k, le-leb number_long (length src - at) h))
+    counter_kept g k h =
+        read_kept src (counter_entry (drop from src)) (record { next = next; level = i; number = 0 }) (counter_read true (sym (counter_right g k) ∙ le-leb number_long (length src - at) h))
 
 -- ---- the order of two entries
 module _ (l n m k : ℕ) where

@@ -1,8 +1,9 @@
 -- Laws of a pick's plan and of what it leaves: refused, accepted, and at the end of its searches. Assumes nothing.
-use Rattle.std.specs.Prelude.{ℕ, ◌+◌, ◌<◌, ◌≡◌, true, false, Ok, Err}
+use Rattle.std.specs.Prelude.{ℕ, ◌+◌, ◌<◌, ◌≡◌, refl, Bool, true, false, cond, eqb, Ok, Err}
 use Rattle.std.proofs.Math.Path.{sym, ap}
-use Rattle.std.proofs.Common.{subst, ◌∙◌, arith, ne_eqb}
+use Rattle.std.proofs.Common.{subst, ◌∙◌, arith, eqb-true, ne_eqb}
 use mathlib.Core.List.{List}
+use Rattle.std.proofs.lemmas.Bool.{eqb-false}
 use Rattle.model.specs.Answer.{Answer, gives, refused, ◌⇒◌, first_of}
 use Rattle.model.specs.File.{full, set_pointer, last_level}
 use Rattle.model.specs.Pick as model
@@ -10,7 +11,7 @@ use Rattle.model.specs.Range.{high_key}
 use Rattle.keys.specs.Key.{key_of}
 use Rattle.answers.specs.Outcome.{number_of, result_of}
 use Rattle.answers.specs.declared.Refusal.{Refusal}
-use Rattle.answers.specs.declared.Refusal.TheVariants.{Form}
+use Rattle.answers.specs.declared.Refusal.TheVariants.{Nothing, Form}
 use Rattle.store.specs.declared.Store.{Store}
 use Rattle.store.specs.Store.{state_of, store_of, well_store, on_store, StoreShape}
 use Rattle.pick_answer.specs.declared.Cause.{Cause}
@@ -91,3 +92,16 @@ module _ (s : Store) (x : Cause) (a : Choice) (k : ℕ) (c : Choice) (g : Choose
       -- some first inputs: the answer is the pick from its first search on, and the pointers are those that the pick leaves
       pub ended_makes : Makes s (picks_from s x a k) (taken_by x c (laid_choice s c)) (pointers_by s.pointers c)
       ended_makes = subst (λ (y : Answer model.Pick). Makes s y (taken_by x c (laid_choice s c)) (pointers_by s.pointers c)) (sym given_answer) given_chosen
+
+    -- in every case: 10 and the pointers as they were, or the pick and the pointers that it leaves
+    pub ended_is : (below : a.level < last_level) → (taken_of (picks_from s x a k) ≡ cond (eqb c.first.count 0) (Err Nothing) (Ok (taken_by x c (laid_choice s c)))) × (with_pointers s (pointers_by s.pointers c) ≡ left_by s (picks_from s x a k))
+    unfolding taken_of result_of left_by pointers_by with_pointers
+    ended_is below = go (eqb c.first.count 0) refl
+      where
+        go : (t : Bool) → eqb c.first.count 0 ≡ t → (taken_of (picks_from s x a k) ≡ cond (eqb c.first.count 0) (Err Nothing) (Ok (taken_by x c (laid_choice s c)))) × (with_pointers s (pointers_by s.pointers c) ≡ left_by s (picks_from s x a k))
+        go true t =
+            let none : picks_from s x a k ≡ refused 10 = ended_none (eqb-true c.first.count 0 t) in
+            rw (none, t) (refl, refl)
+        go false t =
+            let m = ended_makes below (eqb-false c.first.count 0 t) in
+            (sym m.taken ∙ rw t, m.left)

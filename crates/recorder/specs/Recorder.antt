@@ -9,7 +9,6 @@ use Rattle.model.specs.Snapshot.{count_long}
 use Rattle.model_replay.specs.Given.{Given}
 use Rattle.model_replay.specs.Form.{many}
 use Rattle.model_replay.specs.Recording.{Asked, asks_edit, asks_size, asks_range, asks_count, trimmed, calls_long, reuse_tag, mark_tag, last_tag, manifest_tag, previous_tag, pointer_form, deletion_form, addition_form, asked_form, settings_form, recorded_form}
-use Rattle.answers.specs.declared.Refusal.{Refusal}
 use Rattle.keys.specs.declared.FileNumber.{FileNumber}
 use Rattle.keys.specs.declared.Key.{Key}
 use Rattle.keys.specs.Key.{key_of}
@@ -73,25 +72,25 @@ edit_bytes e = asked_form.write (asks_edit (kept_edit e))
 
 -- ---- the entries
 -- the entry of an edit. Of too many entries it keeps one more than an edit may have
-unfoldable pub edit_entry : Edit → Result Unit Refusal → ℕ → Answer (List ℕ)
+unfoldable pub edit_entry : Edit → Result Unit ℕ → ℕ → Answer (List ℕ)
 edit_entry e o room = entry (asks_edit (kept_edit e)) (plain_given o) room
 
 -- the entry of a pick: 14 where its answer cannot be kept
-unfoldable pub pick_entry : Asked → Result Picked Refusal → ℕ → Answer (List ℕ)
+unfoldable pub pick_entry : Asked → Result Picked ℕ → ℕ → Answer (List ℕ)
 pick_entry a o room = cond (can_tell o) (entry a (picked_given o) room) (refused 14)
 
 -- the entry of a size pick
-abbrev pub size_entry : Result Picked Refusal → ℕ → Answer (List ℕ)
+abbrev pub size_entry : Result Picked ℕ → ℕ → Answer (List ℕ)
 size_entry o room = pick_entry asks_size o room
 
 -- the entry of a manual pick
-abbrev pub range_entry : ℕ → Key → Key → Result Picked Refusal → ℕ → Answer (List ℕ)
+abbrev pub range_entry : ℕ → Key → Key → Result Picked ℕ → ℕ → Answer (List ℕ)
 range_entry level start stop o room = pick_entry (asks_range level (key_of start) (key_of stop)) o room
 
 -- the entry of new: the number handed out
-abbrev pub new_entry : Result FileNumber Refusal → ℕ → Answer (List ℕ)
+abbrev pub new_entry : Result FileNumber ℕ → ℕ → Answer (List ℕ)
 new_entry o room = entry (asks_count new) (handed_given o) room
 
 -- the entry of another counter call, with its number
-abbrev pub count_entry : Counter → ℕ → Result Unit Refusal → ℕ → Answer (List ℕ)
+abbrev pub count_entry : Counter → ℕ → Result Unit ℕ → ℕ → Answer (List ℕ)
 count_entry c n o room = entry (asks_count (counter_call c n)) (plain_given o) room

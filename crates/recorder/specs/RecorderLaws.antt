@@ -495,7 +495,7 @@ module _ (e : Edit) where
       (omega arith, l₅ ∙ ap (put out at) edit_is)
 
   -- with its result it is shorter than the longest entry
-  pub edit_most : HasRoom e → (o : Result Unit Refusal) → length (edit_bytes e) + length (given_bytes (plain_given o)) ≤ longest_entry
+  pub edit_most : HasRoom e → (o : Result Unit ℕ) → length (edit_bytes e) + length (given_bytes (plain_given o)) ≤ longest_entry
   edit_most r o =
       let p = parts_most pointer_form pointing_of max_pointers blank_pointing e.pointing_count e.pointings r.pointings 49 pointing_most in
       let d = parts_most deletion_form deletion_of max_deletions blank_deletion e.deletion_count e.deletions r.deletions 16 (λ x. omega (arith, deletion_long x)) in
@@ -608,13 +608,13 @@ module _ (c : Counter) (n : ℕ) where
 -- ---- answers
 
 -- the answer of new is no longer than a number handed out
-pub handed_long : (o : Result FileNumber Refusal) → length (given_bytes (handed_given o)) ≤ short_given
+pub handed_long : (o : Result FileNumber ℕ) → length (given_bytes (handed_given o)) ≤ short_given
 unfolding said_by
 handed_long (Ok n) = omega (arith, numbered_long (given_bytes (handed_given (Ok n))) handed_tag number_long n.0 (handed_is (Ok n) n refl))
 handed_long (Err r) = plain_long (Err r)
 
 -- the answer of a pick that can be kept is no longer than the longest
-pub told_long : (o : Result Picked Refusal) → can_tell o ≡ true → length (given_bytes (picked_given o)) ≤ longest_given
+pub told_long : (o : Result Picked ℕ) → can_tell o ≡ true → length (given_bytes (picked_given o)) ≤ longest_given
 unfolding said_by
 told_long (Ok c) h = given_long c (can_tell_says (Ok c) c refl h).0
 told_long (Err r) h = omega (arith, plain_long (Err r))
@@ -647,7 +647,7 @@ module _ (a : Asked) (g : Given) where
   entry_said bs out o r e h = rw e at h
 
 -- a pick
-module _ (a : Asked) (o : Result Picked Refusal) where
+module _ (a : Asked) (o : Result Picked ℕ) where
   -- its answer cannot be kept: 14
   pub pick_ill : (room : ℕ) → can_tell o ≡ false → pick_entry a o room ≡ refused 14
   unfolding pick_entry

@@ -223,8 +223,8 @@ fn room() -> [u8; Entry::LONGEST] {
     [0u8; Entry::LONGEST]
 }
 
-// The entry of an edit: the call, and its result.
-pub fn edit_entry(e: Edit, o: Result<(), Refusal>, out: &mut [u8]) -> Result<usize, Refusal>
+// The entry of an edit: the call, and its result. Of a refused call it takes the number, as the next four do.
+pub fn edit_entry(e: Edit, o: Result<(), u8>, out: &mut [u8]) -> Result<usize, Refusal>
     ensures { (answer_of result ≡ filling (edit_entry e o (length out.old))) × (out.new ≡ lent (edit_entry e o (length out.old)) out.old) }
 {
     let mut laid = room();
@@ -234,7 +234,7 @@ pub fn edit_entry(e: Edit, o: Result<(), Refusal>, out: &mut [u8]) -> Result<usi
 }
 
 // The entry of a size pick: its result, with what was picked.
-pub fn size_entry(o: Result<Picked, Refusal>, out: &mut [u8]) -> Result<usize, Refusal>
+pub fn size_entry(o: Result<Picked, u8>, out: &mut [u8]) -> Result<usize, Refusal>
     ensures { (answer_of result ≡ filling (size_entry o (length out.old))) × (out.new ≡ lent (size_entry o (length out.old)) out.old) }
 {
     if !replay_given::can_tell(o) {
@@ -251,7 +251,7 @@ pub fn range_entry(
     level: usize,
     start: Key,
     stop: Key,
-    o: Result<Picked, Refusal>,
+    o: Result<Picked, u8>,
     out: &mut [u8],
 ) -> Result<usize, Refusal>
     ensures { (answer_of result ≡ filling (range_entry level start stop o (length out.old))) × (out.new ≡ lent (range_entry level start stop o (length out.old)) out.old) }
@@ -269,7 +269,7 @@ pub fn range_entry(
 }
 
 // The entry of new: its result, with the number handed out.
-pub fn new_entry(o: Result<FileNumber, Refusal>, out: &mut [u8]) -> Result<usize, Refusal>
+pub fn new_entry(o: Result<FileNumber, u8>, out: &mut [u8]) -> Result<usize, Refusal>
     ensures { (answer_of result ≡ filling (new_entry o (length out.old))) × (out.new ≡ lent (new_entry o (length out.old)) out.old) }
 {
     let mut laid = room();
@@ -296,7 +296,7 @@ fn tag_of(c: Counter) -> u64
 pub fn count_entry(
     c: Counter,
     number: u64,
-    o: Result<(), Refusal>,
+    o: Result<(), u8>,
     out: &mut [u8],
 ) -> Result<usize, Refusal>
     ensures { (answer_of result ≡ filling (count_entry c number o (length out.old))) × (out.new ≡ lent (count_entry c number o (length out.old)) out.old) }

@@ -50,7 +50,7 @@ use Rattle.replay_scan.specs.Scan.{passed_by, is_some, is_recording}
 use Rattle.replay_given.specs.Given.{given_bytes, plain_given, handed_given, picked_given, longest_given}
 use Rattle.replay_call.specs.declared.Made.{Made}
 use Rattle.replay_call.specs.Call.{Begins, asked_in, edit_record, count_of, counted_by, made_by, answered}
-use Rattle.replay_call.specs.MadeLaws.{Makes, valued, MakesPick, edit_made, size_made, range_made, new_made, count_made}
+use Rattle.replay_call.specs.MadeLaws.{Makes, valued, numbered, MakesPick, edit_made, size_made, range_made, new_made, count_made}
 use Rattle.replay_call.specs.StepLaws.{plain_fits, handed_fits, picked_fits}
 use Rattle.replay.specs.declared.Stop.{Stop}
 use Rattle.replay.specs.declared.Halt.TheVariants as halt
@@ -68,13 +68,13 @@ module _ (s : Store) (q : StoreShape s) (w : well_store s ≡ true) (room : List
 
   -- so has a pick's answer
   pick_fits : (c : Call) (r : Result Pick Refusal) → MakesPick s c r → length (given_bytes (given full (state_of s) c)) ≤ length room
-  pick_fits c r m = let o = valued (λ (k : Pick). k.picked) r in gave_fits c (result_unwrap_or (valued (λ (k : Pick). k.store) r) s) (picked_given o) m.made (picked_fits o room m.tells h)
+  pick_fits c r m = let o = numbered (λ (k : Pick). k.picked) r in gave_fits c (result_unwrap_or (valued (λ (k : Pick). k.store) r) s) (picked_given o) m.made (picked_fits o room m.tells h)
 
   -- and that of a counter call but new
   count_fits : (tag n : ℕ) → 1 ≤ tag → tag ≤ previous_tag → length (given_bytes (given full (state_of s) (counts (count_of tag n)))) ≤ length room
   count_fits tag n a b =
       let r = counted_by s tag n in
-      let o = valued (λ (t : Store). tt) r in
+      let o = numbered (λ (t : Store). tt) r in
       gave_fits (counts (count_of tag n)) (result_unwrap_or r s) (plain_given o) (count_made s tag n a b q w) (plain_fits o room h)
 
   -- the answer of every call has room
@@ -82,14 +82,14 @@ module _ (s : Store) (q : StoreShape s) (w : well_store s ≡ true) (room : List
   unfolding count_of
   answer_fits (edits e) =
       let r = stored (on_store s (λ t. edit full t (edit_of (edit_record e)))) in
-      let o = valued (λ (t : Store). tt) r in
+      let o = numbered (λ (t : Store). tt) r in
       gave_fits (edits e) (result_unwrap_or r s) (plain_given o) (edit_made s e q w) (plain_fits o room h)
   answer_fits (picks_size m) = pick_fits (picks_size m) (pick_of (on_store s (λ t. size_pick full t m))) (size_made s m q w)
   answer_fits (picks_range m l a b) =
       pick_fits (picks_range m l a b) (pick_of (on_store s (λ t. manual_pick full t m l (key_of (key_record (held_key full a))) (key_of (key_record (held_key full b)))))) (range_made s m l a b q w)
   answer_fits (counts new) =
       let r = handed (on_store s (calls.new_number full)) in
-      let o = valued (λ (h : Handed). h.number) r in
+      let o = numbered (λ (h : Handed). h.number) r in
       gave_fits (counts new) (result_unwrap_or (valued (λ (h : Handed). h.store) r) s) (handed_given o) (new_made s q w) (handed_fits o room h)
   answer_fits (counts (reuse n)) = count_fits 1 n (omega arith) (omega arith)
   answer_fits (counts (mark n)) = count_fits 2 n (omega arith) (omega arith)

@@ -35,7 +35,7 @@ use Rattle.model_replay.specs.Held.{held_key, held_pointer, held_addition, held_
 use Rattle.model_replay.proofs.HeldLaws.{held_alike, held_range}
 use Rattle.model_replay.specs.Recording.{previous_tag}
 use Rattle.std.specs.Result.{result_unwrap_or}
-use Rattle.answers.specs.Outcome.{result_of}
+use Rattle.answers.specs.Outcome.{number_of, result_of}
 use Rattle.answers.specs.declared.Refusal.{Refusal}
 use Rattle.keys.specs.Key.{key_of, key_record}
 use Rattle.keys.specs.KeyLaws.{key_of_record}
@@ -156,10 +156,15 @@ abbrev pub valued : {A B : Type 0} → (A → B) → Result A Refusal → Result
 valued f (Ok a) = Ok (f a)
 valued f (Err r) = Err r
 
+-- the same, with the number of its refusal
+abbrev pub numbered : {A B : Type 0} → (A → B) → Result A Refusal → Result B ℕ
+numbered f (Ok a) = Ok (f a)
+numbered f (Err r) = Err (number_of r)
+
 -- what is known of a pick: it is made, and its answer can be kept
 pub record MakesPick (s : Store) (c : history.Call) (r : Result Pick Refusal) : Type 0 where
-  pub made : Makes s c (result_unwrap_or (valued (λ k. k.store) r) s) (picked_given (valued (λ k. k.picked) r))
-  pub tells : can_tell (valued (λ k. k.picked) r) ≡ true
+  pub made : Makes s c (result_unwrap_or (valued (λ k. k.store) r) s) (picked_given (numbered (λ k. k.picked) r))
+  pub tells : can_tell (numbered (λ k. k.picked) r) ≡ true
 
 -- ---- picked answers that can be kept
 -- a picked answer that can be kept: it is well-formed, and its score is a number
@@ -191,7 +196,7 @@ pub one_store : (s : Store) → StoreShape s → well_store s ≡ true → s ≡
 one_store s q w = store.canonical s q ((store.well_says s).0 w).sound
 
 -- the answer of a call that says nothing more
-plain_said : (a : Answer State) → Told a → plain_given (valued (λ t. tt) (stored a)) ≡ on_answer (λ (t : State). accepted) a
+plain_said : (a : Answer State) → Told a → plain_given (numbered (λ t. tt) (stored a)) ≡ on_answer (λ (t : State). accepted) a
 unfolding said_by stored result_of on_answer
 plain_said (gives t) h = refl
 plain_said (refused n) h = ap refused (h n refl)
@@ -206,7 +211,7 @@ module _ (s : Store) (w : well_store s ≡ true) (one : s ≡ store_of (state_of
 
   -- a call that says nothing more, by the answer that it has for the state
   plain_makes : (c : history.Call) (call : State → Answer State) (a : Answer State) → call (state_of s) ≡ a → Told a → after full (state_of s) c ≡ kept (state_of s) a
-      → given full (state_of s) c ≡ on_answer (λ (t : State). accepted) a → let r = stored (on_store s call) in Makes s c (result_unwrap_or r s) (plain_given (valued (λ t. tt) r))
+      → given full (state_of s) c ≡ on_answer (λ (t : State). accepted) a → let r = stored (on_store s call) in Makes s c (result_unwrap_or r s) (plain_given (numbered (λ t. tt) r))
   plain_makes c call a e h k g = rw (store.on_store_well s call w, e) record { left = leaves_kept a ∙ ap store_of (sym k); gave = plain_said a h ∙ sym g }
 
   -- a pick, by its answer
@@ -229,7 +234,7 @@ module _ (s : Store) (w : well_store s ≡ true) (one : s ≡ store_of (state_of
 
 -- ---- the calls, on a store whose arrays have their lengths, as every store in code has: else a refused call would leave one that is not the store of its state
 -- an edit
-pub edit_made : (s : Store) (e : model.Edit) → StoreShape s → well_store s ≡ true → let r = stored (on_store s (λ t. edit full t (edit_of (edit_record e)))) in Makes s (edits e) (result_unwrap_or r s) (plain_given (valued (λ t. tt) r))
+pub edit_made : (s : Store) (e : model.Edit) → StoreShape s → well_store s ≡ true → let r = stored (on_store s (λ t. edit full t (edit_of (edit_record e)))) in Makes s (edits e) (result_unwrap_or r s) (plain_given (numbered (λ t. tt) r))
 unfolding after given
 edit_made s e q w =
     let t = state_of s in
@@ -253,7 +258,7 @@ range_made s m l a b q w =
     pick_makes s w (one_store s q w) (picks_range m l a b) (λ t. manual_pick full t m l x y) (manual_pick full t m l a b) same (range_told t m l a b) refl refl (range_tellable t m l a b)
 
 -- what new says, by its answer
-handed_said : (a : Answer calls.Handed) → Told a → handed_given (valued (λ h. h.number) (handed a)) ≡ on_answer (λ (h : calls.Handed). said.handed h.number) a
+handed_said : (a : Answer calls.Handed) → Told a → handed_given (numbered (λ h. h.number) (handed a)) ≡ on_answer (λ (h : calls.Handed). said.handed h.number) a
 unfolding handed handed_record result_of said_by on_answer
 handed_said (gives h) t = refl
 handed_said (refused n) t = ap refused (t n refl)
@@ -266,7 +271,7 @@ handed_kept s n one (gives t) = refl
 handed_kept s n one (refused m) = one
 
 -- new
-pub new_made : (s : Store) → StoreShape s → well_store s ≡ true → let r = handed (on_store s (calls.new_number full)) in Makes s (counts new) (result_unwrap_or (valued (λ h. h.store) r) s) (handed_given (valued (λ h. h.number) r))
+pub new_made : (s : Store) → StoreShape s → well_store s ≡ true → let r = handed (on_store s (calls.new_number full)) in Makes s (counts new) (result_unwrap_or (valued (λ h. h.store) r) s) (handed_given (numbered (λ h. h.number) r))
 unfolding after
 new_made s q w =
     let t = state_of s in
@@ -288,7 +293,7 @@ count_says_lem t (suc (suc (suc (suc (suc (suc tag)))))) n h k = absurd (omega a
 
 -- the other counter calls, by their tag
 pub count_made : (s : Store) (tag n : ℕ) → 1 ≤ tag → tag ≤ previous_tag → StoreShape s → well_store s ≡ true
-    → let r = counted_by s tag n in Makes s (counts (count_of tag n)) (result_unwrap_or r s) (plain_given (valued (λ t. tt) r))
+    → let r = counted_by s tag n in Makes s (counts (count_of tag n)) (result_unwrap_or r s) (plain_given (numbered (λ t. tt) r))
 unfolding counted_by after given
 count_made s tag n h k q w =
     let a = counter full (state_of s) (count_of tag n) in

@@ -50,7 +50,7 @@ use Rattle.replay_scan.specs.RecordLaws.{takes_says, then_says, bytes_then, numb
 use Rattle.replay_given.specs.Given.{said_by, plain_given, handed_given, picked_given, given_bytes, longest_given, can_tell}
 use Rattle.replay_given.specs.GivenLaws.{handed_is, numbered_long, plain_long, given_long, can_tell_says}
 use Rattle.replay_call.specs.Call.{value_or, Begins, edit_record, edit_in, range_in, count_in, count_of, counted_by, asked_in, made_by, answered}
-use Rattle.replay_call.specs.MadeLaws.{Makes, valued, MakesPick, edit_made, size_made, range_made, new_made, count_made}
+use Rattle.replay_call.specs.MadeLaws.{Makes, valued, numbered, MakesPick, edit_made, size_made, range_made, new_made, count_made}
 
 -- ---- one part after another
 module _ (src : List ℕ) (at : ℕ) where
@@ -265,20 +265,20 @@ counted_is s tag n k e = rw e
 
 -- ---- the answer in lent room
 -- the answer of an edit, or of a counter call but new, has room
-pub plain_fits : (o : Result Unit Refusal) (room : List ℕ) → longest_given ≤ length room → 0 + length (given_bytes (plain_given o)) ≤ length room
+pub plain_fits : (o : Result Unit ℕ) (room : List ℕ) → longest_given ≤ length room → 0 + length (given_bytes (plain_given o)) ≤ length room
 plain_fits o room h = omega (arith, plain_long o)
 
 -- so has that of new
-pub handed_fits : (o : Result FileNumber Refusal) (room : List ℕ) → longest_given ≤ length room → 0 + length (given_bytes (handed_given o)) ≤ length room
+pub handed_fits : (o : Result FileNumber ℕ) (room : List ℕ) → longest_given ≤ length room → 0 + length (given_bytes (handed_given o)) ≤ length room
 unfolding said_by
 handed_fits (Ok n) room h = omega (arith, numbered_long (given_bytes (handed_given (Ok n))) handed_tag number_long n.0 (handed_is (Ok n) n refl))
-handed_fits (Err r) room h = plain_fits (Err r) room h
+handed_fits (Err n) room h = plain_fits (Err n) room h
 
 -- and that of a pick that can be kept
-pub picked_fits : (o : Result Picked Refusal) (room : List ℕ) → can_tell o ≡ true → longest_given ≤ length room → 0 + length (given_bytes (picked_given o)) ≤ length room
+pub picked_fits : (o : Result Picked ℕ) (room : List ℕ) → can_tell o ≡ true → longest_given ≤ length room → 0 + length (given_bytes (picked_given o)) ≤ length room
 unfolding said_by
 picked_fits (Ok c) room k h = omega (arith, given_long c (can_tell_says (Ok c) c refl k).0)
-picked_fits (Err r) room k h = plain_fits (Err r) room h
+picked_fits (Err n) room k h = plain_fits (Err n) room h
 
 -- the store that a call leaves and its answer, laid at the start of the room, are what code returns and leaves in it
 pub made_laid : (s : Store) (c : history.Call) (t : Store) (g : Given) (room out : List ℕ) (n : ℕ) → Makes s c t g → (n ≡ 0 + length (given_bytes g)) × (out ≡ put room 0 (given_bytes g))
@@ -292,7 +292,7 @@ made_laid s c t g room out n m h =
 -- ---- what code's calls return is made
 module _ (s : Store) (q : StoreShape s) (w : well_store s ≡ true) where
   -- an edit
-  pub edit_makes : (e : model.Edit) (x : Edit) (r : Result Store Refusal) → x ≡ edit_record e → r ≡ stored (on_store s (λ t. edit full t (edit_of x))) → Makes s (edits e) (result_unwrap_or r s) (plain_given (valued (λ t. tt) r))
+  pub edit_makes : (e : model.Edit) (x : Edit) (r : Result Store Refusal) → x ≡ edit_record e → r ≡ stored (on_store s (λ t. edit full t (edit_of x))) → Makes s (edits e) (result_unwrap_or r s) (plain_given (numbered (λ t. tt) r))
   edit_makes e x r h k = rw (k, h) (edit_made s e q w)
 
   -- a size pick
@@ -305,9 +305,9 @@ module _ (s : Store) (q : StoreShape s) (w : well_store s ≡ true) where
   range_makes m l a b x y r h i k = rw (k, h, i) (range_made s m l a b q w)
 
   -- new
-  pub new_makes : (r : Result Handed Refusal) → r ≡ handed (on_store s (calls.new_number full)) → Makes s (counts new) (result_unwrap_or (valued (λ h. h.store) r) s) (handed_given (valued (λ h. h.number) r))
+  pub new_makes : (r : Result Handed Refusal) → r ≡ handed (on_store s (calls.new_number full)) → Makes s (counts new) (result_unwrap_or (valued (λ h. h.store) r) s) (handed_given (numbered (λ h. h.number) r))
   new_makes r k = rw k (new_made s q w)
 
   -- another counter call
-  pub count_makes : (tag n : ℕ) (r : Result Store Refusal) → (1 ≤ tag) × (tag ≤ previous_tag) → r ≡ counted_by s tag n → Makes s (counts (count_of tag n)) (result_unwrap_or r s) (plain_given (valued (λ t. tt) r))
+  pub count_makes : (tag n : ℕ) (r : Result Store Refusal) → (1 ≤ tag) × (tag ≤ previous_tag) → r ≡ counted_by s tag n → Makes s (counts (count_of tag n)) (result_unwrap_or r s) (plain_given (numbered (λ t. tt) r))
   count_makes tag n r h k = rw k (count_made s tag n h.0 h.1 q w)

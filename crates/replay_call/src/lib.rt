@@ -189,7 +189,7 @@ fn make_edit(s: Store, src: &[u8], at: usize, room: &mut [u8]) -> Made
         },
         Err(r) => Made {
             store: s,
-            length: replay_given::put_plain(room, 0, Err(r)),
+            length: replay_given::put_plain(room, 0, Err(r.number())),
         },
     }
 }
@@ -199,14 +199,14 @@ fn make_size(s: Store, maximum: u64, room: &mut [u8]) -> Made
     requires { (well_store s ≡ true) × (longest_given ≤ length room.old) }
     ensures { (result ≡ made_by s (picks_size maximum)) × (room.new ≡ answered s (picks_size maximum) room.old) }
 {
-    match pick::pick_compaction(s, maximum) {
+    match &pick::pick_compaction(s, maximum) {
         Ok(p) => Made {
             store: p.store,
-            length: replay_given::put_picked(room, 0, Ok(p.picked)),
+            length: replay_given::put_pick(room, 0, p.picked),
         },
         Err(r) => Made {
             store: s,
-            length: replay_given::put_picked(room, 0, Err(r)),
+            length: replay_given::put_plain(room, 0, Err(r.number())),
         },
     }
 }
@@ -219,14 +219,14 @@ fn make_range(s: Store, maximum: u64, src: &[u8], at: usize, room: &mut [u8]) ->
     let level = snapshot_parse::get_number(src, at, Snapshot::NUMBER);
     let start = key_at(src, at + Snapshot::NUMBER);
     let stop = key_at(src, start.next);
-    match pick::compact_range(s, maximum, level as usize, start.key, stop.key) {
+    match &pick::compact_range(s, maximum, level as usize, start.key, stop.key) {
         Ok(p) => Made {
             store: p.store,
-            length: replay_given::put_picked(room, 0, Ok(p.picked)),
+            length: replay_given::put_pick(room, 0, p.picked),
         },
         Err(r) => Made {
             store: s,
-            length: replay_given::put_picked(room, 0, Err(r)),
+            length: replay_given::put_plain(room, 0, Err(r.number())),
         },
     }
 }
@@ -265,7 +265,7 @@ fn make_count(s: Store, src: &[u8], at: usize, room: &mut [u8]) -> Made
             },
             Err(r) => Made {
                 store: s,
-                length: replay_given::put_handed(room, 0, Err(r)),
+                length: replay_given::put_handed(room, 0, Err(r.number())),
             },
         };
     }
@@ -277,7 +277,7 @@ fn make_count(s: Store, src: &[u8], at: usize, room: &mut [u8]) -> Made
         },
         Err(r) => Made {
             store: s,
-            length: replay_given::put_plain(room, 0, Err(r)),
+            length: replay_given::put_plain(room, 0, Err(r.number())),
         },
     }
 }

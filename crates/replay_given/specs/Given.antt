@@ -8,8 +8,6 @@ use Rattle.model.specs.Snapshot.{byte_long, count_long, number_long, file_long, 
 use Rattle.model_replay.specs.Given as model
 use Rattle.model_replay.specs.Given.{accepted, handed, picked, choice_of, why_of}
 use Rattle.model_replay.specs.Recording.{given_form, why_form}
-use Rattle.answers.specs.Outcome.{number_of}
-use Rattle.answers.specs.declared.Refusal.{Refusal}
 use Rattle.keys.specs.declared.FileNumber.{FileNumber}
 use Rattle.pick_answer.specs.declared.Cause.{Cause}
 use Rattle.pick_answer.specs.declared.Cause.TheVariants.{Size, Manual}
@@ -18,20 +16,20 @@ use Rattle.pick_answer.specs.Picked.{cause_of, lists_in, picked_of, well_picked}
 
 -- ---- what is said
 -- the result of a call: what is said of its value, or the number of its refusal
-unfoldable pub said_by : {A : Type 0} → (A → model.Said) → Result A Refusal → model.Given
+unfoldable pub said_by : {A : Type 0} → (A → model.Said) → Result A ℕ → model.Given
 said_by f (Ok a) = gives (f a)
-said_by f (Err r) = refused (number_of r)
+said_by f (Err n) = refused n
 
 -- the answer of an edit, or of a counter call but new
-abbrev pub plain_given : Result Unit Refusal → model.Given
+abbrev pub plain_given : Result Unit ℕ → model.Given
 plain_given o = said_by (λ _. accepted) o
 
 -- the answer of new: the number handed out
-abbrev pub handed_given : Result FileNumber Refusal → model.Given
+abbrev pub handed_given : Result FileNumber ℕ → model.Given
 handed_given o = said_by (λ n. handed n.0) o
 
 -- the answer of a pick: what was picked
-abbrev pub picked_given : Result Picked Refusal → model.Given
+abbrev pub picked_given : Result Picked ℕ → model.Given
 picked_given o = said_by (λ c. picked (choice_of (picked_of c))) o
 
 -- ---- its bytes
@@ -62,6 +60,6 @@ is_number (Size x) = not (is_nan x)
 is_number Manual = true
 
 -- the answer of a pick can be kept: it is a refusal, or the picked answer is well-formed and its score a number
-unfoldable pub can_tell : Result Picked Refusal → Bool
+unfoldable pub can_tell : Result Picked ℕ → Bool
 can_tell (Ok c) = well_picked c && is_number c.cause
-can_tell (Err r) = true
+can_tell (Err n) = true

@@ -21,8 +21,6 @@ use Rattle.model.proofs.SnapshotLaws.{section_length, file_most}
 use Rattle.model_replay.specs.Form.{num, file_form, pair, shaped, many, tag}
 use Rattle.model_replay.specs.Given.{Said, accepted, picked, choice_of, why_of}
 use Rattle.model_replay.specs.Recording.{scored_tag, by_hand_tag, accepted_tag, handed_tag, picked_tag, refused_tag, write_why, why_form, choice_form, write_given, given_form}
-use Rattle.answers.specs.Outcome.{number_of}
-use Rattle.answers.specs.declared.Refusal.{Refusal}
 use Rattle.keys.specs.declared.FileNumber.{FileNumber}
 use Rattle.records.specs.declared.FileRecord.{FileRecord}
 use Rattle.records.specs.Record.{file_of, well_record, is_blank, past}
@@ -83,17 +81,17 @@ unfolding given_form write_given num
 refused_is n = refl
 
 -- a refused call gives that refusal, whatever it would have said
-pub refused_given : {A : Type 0} (f : A → Said) (o : Result A Refusal) (r : Refusal) → o ≡ Err r → given_bytes (said_by f o) ≡ given_bytes (refused (number_of r))
+pub refused_given : {A : Type 0} (f : A → Said) (o : Result A ℕ) (n : ℕ) → o ≡ Err n → given_bytes (said_by f o) ≡ given_bytes (refused n)
 unfolding said_by
-refused_given f o r e = rw e
+refused_given f o n e = rw e
 
 -- an edit, or a counter call but new, accepted: a tag
-pub accepted_is : (o : Result Unit Refusal) (u : Unit) → o ≡ Ok u → given_bytes (plain_given o) ≡ tag accepted_tag []
+pub accepted_is : (o : Result Unit ℕ) (u : Unit) → o ≡ Ok u → given_bytes (plain_given o) ≡ tag accepted_tag []
 unfolding given_form write_given said_by
 accepted_is o u e = rw e
 
 -- new, accepted: its tag, then the number handed out
-pub handed_is : (o : Result FileNumber Refusal) (n : FileNumber) → o ≡ Ok n → given_bytes (handed_given o) ≡ tag handed_tag (bytes number_long n.0)
+pub handed_is : (o : Result FileNumber ℕ) (n : FileNumber) → o ≡ Ok n → given_bytes (handed_given o) ≡ tag handed_tag (bytes number_long n.0)
 unfolding given_form write_given said_by num
 handed_is o n e = rw e
 
@@ -121,7 +119,7 @@ unfolding given_form write_given tag choice_form shaped pair num many file_form 
 picked_is c = rw (← lists_are c) (simp append_assoc)
 
 -- an accepted pick gives what was picked
-pub picked_given_lem : (o : Result Picked Refusal) (c : Picked) → o ≡ Ok c → picked_given o ≡ gives (picked (choice_of (picked_of c)))
+pub picked_given_lem : (o : Result Picked ℕ) (c : Picked) → o ≡ Ok c → picked_given o ≡ gives (picked (choice_of (picked_of c)))
 unfolding said_by
 picked_given_lem o c e = rw e
 
@@ -133,10 +131,10 @@ why_long (Size x) = omega (arith, numbered_long (why_bytes (Size x)) scored_tag 
 why_long Manual = omega (arith, bare_long (why_bytes Manual) by_hand_tag (by_hand_is Manual refl))
 
 -- no answer of an edit, or of a counter call but new, is longer than a number handed out
-pub plain_long : (o : Result Unit Refusal) → length (given_bytes (plain_given o)) ≤ short_given
+pub plain_long : (o : Result Unit ℕ) → length (given_bytes (plain_given o)) ≤ short_given
 unfolding said_by
 plain_long (Ok u) = omega (arith, bare_long (given_bytes (gives accepted)) accepted_tag (accepted_is (Ok u) u refl))
-plain_long (Err r) = let n = number_of r in omega (arith, numbered_long (given_bytes (refused n)) refused_tag byte_long n (refused_is n))
+plain_long (Err n) = omega (arith, numbered_long (given_bytes (refused n)) refused_tag byte_long n (refused_is n))
 
 -- a pick, part by part
 module _ (c : Picked) where
@@ -234,7 +232,7 @@ unfolding is_number
 score_number c x e h = not-true (is_nan x) (rw e at h)
 
 -- an accepted pick that can be told is well-formed, and its score a number
-pub can_tell_says : (o : Result Picked Refusal) (c : Picked) → o ≡ Ok c → can_tell o ≡ true → (well_picked c ≡ true) × (is_number c.cause ≡ true)
+pub can_tell_says : (o : Result Picked ℕ) (c : Picked) → o ≡ Ok c → can_tell o ≡ true → (well_picked c ≡ true) × (is_number c.cause ≡ true)
 unfolding can_tell
 can_tell_says o c e h =
     let a = well_picked c in

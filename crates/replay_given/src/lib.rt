@@ -1,16 +1,14 @@
 // The answers of calls as a record keeps them: their bytes, laid in lent output.
 #![tactic(auto)]
 
-ghost use Rattle.std.specs.Prelude.{◌≡◌, true, false, ◌+◌, ◌≤◌, length};
+ghost use Rattle.std.specs.Prelude.{◌≡◌, true, false, ◌+◌, ◌≤◌, length, Ok};
 ghost use Rattle.lemmas.specs.Slices.{put};
 ghost use Rattle.model.specs.Answer.{refused};
-ghost use Rattle.answers.specs.Outcome.{number_of};
 ghost use Rattle.std.specs.Float.{binary64};
 ghost use Rattle.std.specs.Float.Ieee.{is_nan, to_bits};
 ghost use Rattle.pick_answer.specs.Picked.{well_picked};
 ghost use Rattle.replay_given.specs.Given.{plain_given, handed_given, picked_given, given_bytes, why_bytes, lists_bytes, is_number, can_tell};
 
-use answers::Refusal;
 use keys::{FileNumber, Key};
 use pick_answer::{Cause, Picked};
 use records::Version;
@@ -33,23 +31,18 @@ impl Given {
         + Version::ROOM * (Snapshot::FILE + 2 * Key::ROOM);
 }
 
-// Lays a refusal. Returns the place after it. Requires: the output has these places.
-fn put_refused(out: &mut [u8], at: usize, r: Refusal) -> usize
-    requires { at + length (given_bytes (refused (number_of r))) ≤ length out.old }
-    ensures { (result ≡ at + length (given_bytes (refused (number_of r)))) × (out.new ≡ put out.old at (given_bytes (refused (number_of r)))) }
+// Lays a refusal, by its number. Returns the place after it. Requires: the output has these places.
+fn put_refused(out: &mut [u8], at: usize, n: u8) -> usize
+    requires { at + length (given_bytes (refused n)) ≤ length out.old }
+    ensures { (result ≡ at + length (given_bytes (refused n))) × (out.new ≡ put out.old at (given_bytes (refused n))) }
 {
     snapshot_parts::put_number(out, at, Snapshot::BYTE, Record::REFUSED);
-    snapshot_parts::put_number(
-        out,
-        at + Snapshot::BYTE,
-        Snapshot::BYTE,
-        u64::from(r.number()),
-    );
+    snapshot_parts::put_number(out, at + Snapshot::BYTE, Snapshot::BYTE, u64::from(n));
     at + Snapshot::BYTE + Snapshot::BYTE
 }
 
 // Lays the answer of an edit, or of a counter call but new. Returns the place after it. Internal. Requires: the output has these places.
-pub fn put_plain(out: &mut [u8], at: usize, o: Result<(), Refusal>) -> usize
+pub fn put_plain(out: &mut [u8], at: usize, o: Result<(), u8>) -> usize
     requires { at + length (given_bytes (plain_given o)) ≤ length out.old }
     ensures { (result ≡ at + length (given_bytes (plain_given o))) × (out.new ≡ put out.old at (given_bytes (plain_given o))) }
 {
@@ -58,12 +51,12 @@ pub fn put_plain(out: &mut [u8], at: usize, o: Result<(), Refusal>) -> usize
             snapshot_parts::put_number(out, at, Snapshot::BYTE, Record::ACCEPTED);
             at + Snapshot::BYTE
         }
-        Err(r) => put_refused(out, at, r),
+        Err(n) => put_refused(out, at, n),
     }
 }
 
 // Lays the answer of new. Returns the place after it. Internal. Requires: the output has these places.
-pub fn put_handed(out: &mut [u8], at: usize, o: Result<FileNumber, Refusal>) -> usize
+pub fn put_handed(out: &mut [u8], at: usize, o: Result<FileNumber, u8>) -> usize
     requires { at + length (given_bytes (handed_given o)) ≤ length out.old }
     ensures { (result ≡ at + length (given_bytes (handed_given o))) × (out.new ≡ put out.old at (given_bytes (handed_given o))) }
 {
@@ -73,7 +66,7 @@ pub fn put_handed(out: &mut [u8], at: usize, o: Result<FileNumber, Refusal>) -> 
             snapshot_parts::put_number(out, at + Snapshot::BYTE, Snapshot::NUMBER, number.0);
             at + Given::SHORT
         }
-        Err(r) => put_refused(out, at, r),
+        Err(n) => put_refused(out, at, n),
     }
 }
 
@@ -88,11 +81,11 @@ pub fn is_number(c: Cause) -> bool
 }
 
 // Whether the answer of a pick can be kept: it is a refusal, or the picked answer is well-formed and its score a number. Internal.
-pub fn can_tell(o: Result<Picked, Refusal>) -> bool
+pub fn can_tell(o: Result<Picked, u8>) -> bool
     ensures { result ≡ can_tell o }
 {
-    match o {
-        Ok(c) => pick_answer::is_well_formed(c) && is_number(c.cause),
+    match &o {
+        Ok(c) => pick_answer::is_well_formed(*c) && is_number(c.cause),
         Err(_) => true,
     }
 }
@@ -144,19 +137,25 @@ fn put_lists(out: &mut [u8], at: usize, c: Picked) -> usize
     next
 }
 
+// Lays what was picked. Returns the place after it. Internal. Requires: it can be kept, and the output has these places.
+pub fn put_pick(out: &mut [u8], at: usize, c: Picked) -> usize
+    requires { (can_tell (Ok c) ≡ true) × (at + length (given_bytes (picked_given (Ok c))) ≤ length out.old) }
+    ensures { (result ≡ at + length (given_bytes (picked_given (Ok c)))) × (out.new ≡ put out.old at (given_bytes (picked_given (Ok c)))) }
+{
+    snapshot_parts::put_number(out, at, Snapshot::BYTE, Record::PICKED);
+    snapshot_parts::put_number(out, at + Snapshot::BYTE, Snapshot::NUMBER, c.level as u64);
+    let why = put_why(out, at + Given::SHORT, c.cause);
+    snapshot_parts::put_number(out, why, Snapshot::NUMBER, c.maximum);
+    put_lists(out, why + Snapshot::NUMBER, c)
+}
+
 // Lays the answer of a pick. Returns the place after it. Internal. Requires: it can be kept, and the output has these places.
-pub fn put_picked(out: &mut [u8], at: usize, o: Result<Picked, Refusal>) -> usize
+pub fn put_picked(out: &mut [u8], at: usize, o: Result<Picked, u8>) -> usize
     requires { (can_tell o ≡ true) × (at + length (given_bytes (picked_given o)) ≤ length out.old) }
     ensures { (result ≡ at + length (given_bytes (picked_given o))) × (out.new ≡ put out.old at (given_bytes (picked_given o))) }
 {
-    match o {
-        Ok(c) => {
-            snapshot_parts::put_number(out, at, Snapshot::BYTE, Record::PICKED);
-            snapshot_parts::put_number(out, at + Snapshot::BYTE, Snapshot::NUMBER, c.level as u64);
-            let why = put_why(out, at + Given::SHORT, c.cause);
-            snapshot_parts::put_number(out, why, Snapshot::NUMBER, c.maximum);
-            put_lists(out, why + Snapshot::NUMBER, c)
-        }
-        Err(r) => put_refused(out, at, r),
+    match &o {
+        Ok(c) => put_pick(out, at, *c),
+        Err(n) => put_refused(out, at, *n),
     }
 }

@@ -2,12 +2,10 @@
 #![tactic(auto)]
 
 ghost use Rattle.std.specs.Prelude.{◌≡◌, [], ◌∷◌, ◌<◌, min, length};
-ghost use Rattle.answers.specs.Outcome.{number_of};
 ghost use Rattle.io.specs.Digits.{hex_digit_ascii};
 ghost use Rattle.keys.specs.Key.{key_of, user_of};
 ghost use Rattle.script_lines.specs.Lines.{Laid, gap_text, decimal, bits, hex_text, refused_text};
 
-use answers::Refusal;
 use keys::{Key, UserKey};
 
 // One byte.
@@ -113,11 +111,11 @@ pub fn put_user_key(out: &mut [u8], at: usize, u: UserKey) -> usize
 }
 
 // `refused` and the number of a refusal.
-pub fn put_refused(out: &mut [u8], at: usize, r: Refusal) -> usize
-    ensures { Laid out.old at (refused_text (number_of r)) out.new result }
+pub fn put_refused(out: &mut [u8], at: usize, n: u8) -> usize
+    ensures { Laid out.old at (refused_text n) out.new result }
 {
     let to = put(out, at, b"refused ");
-    put_number(out, to, u64::from(r.number()))
+    put_number(out, to, u64::from(n))
 }
 
 // Where an answer ends: at a place, or where the bytes end.

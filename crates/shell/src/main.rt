@@ -55,23 +55,18 @@ fn put_still<R: Files>(
     shell_answer::put_asked(out, s, line, c)
 }
 
-// Answers a line.
-fn answer<R: Files>(rt: &R, out: &mut [u8], kept: &mut [u8], m: Machine, line: &[u8]) -> Machine {
+// Answers a line. The machine is lent, so that a line that leaves it as it is copies nothing of it.
+fn answer<R: Files>(rt: &R, out: &mut [u8], kept: &mut [u8], m: &mut Machine, line: &[u8]) {
     match shell_answer::begin(out, line) {
-        Begun::Silent => m,
-        Begun::Laid(at) => {
-            print(out, at);
-            m
-        }
+        Begun::Silent => {}
+        Begun::Laid(at) => print(out, at),
         Begun::Asks(c) => {
             let at = put_still(rt, out, kept, m.store, line, c);
-            print(out, at);
-            m
+            print(out, at)
         }
         Begun::Turns(c) => {
-            let after = shell_machine::turn(rt, out, m, line, c.group, c.which);
-            print(out, after.at);
-            after
+            *m = shell_machine::turn(rt, out, *m, line, c.group, c.which);
+            print(out, m.at)
         }
     }
 }
@@ -93,10 +88,10 @@ fn take<R: Files>(
     rt: &R,
     out: &mut [u8],
     kept: &mut [u8],
-    m: Machine,
+    m: &mut Machine,
     line: &[u8],
     count: usize,
-) -> Machine {
+) {
     let whole = front(out, line, count);
     answer(rt, out, kept, m, whole)
 }
@@ -129,13 +124,13 @@ fn main(rt: HostRuntime) {
         };
         if count == 0 {
             if 0 < n {
-                m = take(&rt, &mut out, &mut kept, m, &line, n);
+                take(&rt, &mut out, &mut kept, &mut m, &line, n);
             }
             return;
         }
         for b in &block[..count] {
             if *b == b'\n' {
-                m = take(&rt, &mut out, &mut kept, m, &line, n);
+                take(&rt, &mut out, &mut kept, &mut m, &line, n);
                 n = 0;
             } else {
                 n = push(&mut line, n, *b);

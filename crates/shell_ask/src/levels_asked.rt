@@ -29,7 +29,7 @@ fn put_files(out: &mut [u8], l: FileList) -> usize {
 fn put_bytes(out: &mut [u8], level: usize, l: FileList) -> usize {
     match level_list::total_size(level, l) {
         Ok(bytes) => shell_reply::put_form(out, 0, b"% %", [l.count as u64, bytes, 0, 0, 0]),
-        Err(r) => script_lines::put_refused(out, 0, r),
+        Err(r) => script_lines::put_refused(out, 0, r.number()),
     }
 }
 
@@ -42,7 +42,7 @@ fn put_range(out: &mut [u8], level: usize, l: FileList) -> usize {
             script_lines::put_key(out, at, ends.high)
         }
         Ok(None) => script_lines::put(out, 0, b"none"),
-        Err(r) => script_lines::put_refused(out, 0, r),
+        Err(r) => script_lines::put_refused(out, 0, r.number()),
     }
 }
 
@@ -63,6 +63,6 @@ pub(crate) fn put_answer(out: &mut [u8], s: Store, line: &[u8], which: u8) -> us
     let level = l.value as usize;
     match level_list::level_files(s, level) {
         Ok(list) => put_list(out, level, list, which),
-        Err(r) => script_lines::put_refused(out, 0, r),
+        Err(r) => script_lines::put_refused(out, 0, r.number()),
     }
 }

@@ -43,7 +43,7 @@ fn put_scored(out: &mut [u8], c: Scored) -> usize {
 fn put_score(out: &mut [u8], s: Store) -> usize {
     match pick_score::needs_compaction(s) {
         Ok(scored) => put_scored(out, scored),
-        Err(r) => script_lines::put_refused(out, 0, r),
+        Err(r) => script_lines::put_refused(out, 0, r.number()),
     }
 }
 
@@ -52,7 +52,7 @@ fn put_snapshot(out: &mut [u8], s: Store) -> usize {
     let mut room = io::large_buffer();
     match snapshot_write::write(s, &mut room) {
         Ok(n) => shell_reply::put_front(out, &room, n),
-        Err(r) => script_lines::put_refused(out, 0, r),
+        Err(r) => script_lines::put_refused(out, 0, r.number()),
     }
 }
 
@@ -61,7 +61,7 @@ fn put_live(out: &mut [u8], s: Store) -> usize {
     let mut column = [0u64; Version::ROOM];
     match ask_store::live_files(s, &mut column) {
         Ok(n) => shell_reply::put_column(out, 0, &column[..n.min(Version::ROOM)]),
-        Err(r) => script_lines::put_refused(out, 0, r),
+        Err(r) => script_lines::put_refused(out, 0, r.number()),
     }
 }
 

@@ -66,7 +66,7 @@ fn put_patched(out: &mut [u8], kept: &[u8], line: &[u8], list: &[u8]) -> usize {
     let n = slots::lay_word(kept, line, word(line, 1), &mut left);
     match patch::patching(&left[..n], list, &mut made) {
         Ok(m) => shell_reply::put_front(out, &made, m),
-        Err(r) => script_lines::put_refused(out, 0, r),
+        Err(r) => script_lines::put_refused(out, 0, r.number()),
     }
 }
 
@@ -87,7 +87,7 @@ fn put_compared(out: &mut [u8], kept: &[u8], line: &[u8], which: u8) -> usize {
     let mut list = list_room();
     match compare(kept, line, &mut list) {
         Ok(n) => put_told(out, kept, line, &list, n, which),
-        Err(r) => script_lines::put_refused(out, 0, r),
+        Err(r) => script_lines::put_refused(out, 0, r.number()),
     }
 }
 

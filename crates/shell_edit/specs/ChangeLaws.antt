@@ -1,8 +1,12 @@
 -- What the words of a line read as. Assumes nothing.
 use Rattle.std.specs.Prelude.{ℕ, ◌≡◌, List, length, get_or, take, Result}
-use Rattle.std.proofs.Common.{ap, ◌∙◌}
+use Rattle.std.proofs.Common.{refl, ap, ◌∙◌}
+use Rattle.model.specs.Answer.{Answer, gives, refused}
+use Rattle.model.specs.File.{State}
+use Rattle.answers.specs.Outcome.{result_of}
 use Rattle.answers.specs.declared.Refusal.{Refusal}
 use Rattle.store.specs.declared.Store.{Store}
+use Rattle.store.specs.Store.{store_of, leaves, stored}
 use Rattle.script_words.specs.declared.NumberWord.{NumberWord}
 use Rattle.script_words.specs.Words.{word_of, number_word, hex_bytes}
 use Rattle.script_parts.specs.declared.Parts.{Parts}
@@ -19,6 +23,26 @@ module _ (line : List ℕ) (w : Parts) (e : w ≡ words_of line) where
   -- a run
   pub run_is : (i : ℕ) (r : Run) → r ≡ run_of line w i → r ≡ word_at line i
   run_is i r h = h ∙ ap (λ (p : Parts). run_of line p i) e
+
+-- what the shell keeps after a call is the store that the call leaves: of an accepted one that of the new state, of a refused one the store before it
+module _ (s : Store) (a : Answer State) where
+  -- the store after a call that is told by `ok`
+  pub told_leaves : (told_by s (stored a)).store ≡ leaves s a
+  unfolding stored result_of leaves
+  told_leaves = go a
+    where
+      go : (x : Answer State) → (told_by s (result_of store_of x)).store ≡ leaves s x
+      go (gives t) = refl
+      go (refused n) = refl
+
+  -- the store after one that is told by the next file number
+  pub counted_leaves : (counted_by s (stored a)).store ≡ leaves s a
+  unfolding stored result_of leaves
+  counted_leaves = go a
+    where
+      go : (x : Answer State) → (counted_by s (result_of store_of x)).store ≡ leaves s x
+      go (gives t) = refl
+      go (refused n) = refl
 
 -- a number given back or marked, of the line's number
 pub count_is : (s : Store) (line : List ℕ) (which n : ℕ) (r : Result Store Refusal) (x : Changed) → n ≡ number_at line 1 → r ≡ count_by s which n → x ≡ counted_by s r

@@ -143,7 +143,7 @@ fn put_saved<R: Files>(rt: &R, out: &mut [u8], s: Store, name: &[u8]) -> usize {
     let mut room = snapshot_room();
     match snapshot_write::write(s, &mut room) {
         Ok(n) => put_written(rt, out, name, &room, n),
-        Err(r) => script_lines::put_refused(out, 0, r),
+        Err(r) => script_lines::put_refused(out, 0, r.number()),
     }
 }
 

@@ -17,7 +17,7 @@ fn put_overlap(out: &mut [u8], s: Store, line: &[u8], w: Parts) -> usize {
     let b = script_parts::key(line, w, 3);
     match ask_overlap::overlapping_inputs(s, l.value as usize, a.key, b.key) {
         Ok(list) => shell_reply::put_files(out, 0, list.files, 0, list.count),
-        Err(r) => script_lines::put_refused(out, 0, r),
+        Err(r) => script_lines::put_refused(out, 0, r.number()),
     }
 }
 
@@ -71,7 +71,7 @@ fn put_level(out: &mut [u8], start: usize, s: Store, level: usize, k: Key) -> us
     let mut column = [0u64; Version::ROOM];
     match look_up(s, level, k, &mut column) {
         Ok(n) => shell_reply::put_column(out, at, &column[..n.min(Version::ROOM)]),
-        Err(r) => script_lines::put_refused(out, at, r),
+        Err(r) => script_lines::put_refused(out, at, r.number()),
     }
 }
 
@@ -88,7 +88,7 @@ fn put_levels(out: &mut [u8], s: Store, k: Key) -> usize {
 fn put_lookup(out: &mut [u8], s: Store, line: &[u8], w: Parts) -> usize {
     let k = script_parts::key(line, w, 1);
     if !keys::is_good(k.key) {
-        return script_lines::put_refused(out, 0, Refusal::Key);
+        return script_lines::put_refused(out, 0, Refusal::Key.number());
     }
     put_levels(out, s, k.key)
 }

@@ -56,7 +56,7 @@ fn stop(out: &mut [u8], c: Picked, memory: &mut Cutter, line: &[u8]) -> usize {
                 at = put_cut(out, at, cut);
                 *memory = cut.memory;
             }
-            Err(r) => return script_lines::put_refused(out, at, r),
+            Err(r) => return script_lines::put_refused(out, at, r.number()),
         }
     }
     at
@@ -73,7 +73,7 @@ fn base(out: &mut [u8], s: Store, level: usize, memory: &mut Asked, line: &[u8])
                 at = put_yes(out, at, based.base);
                 *memory = based.memory;
             }
-            Err(r) => return script_lines::put_refused(out, at, r),
+            Err(r) => return script_lines::put_refused(out, at, r.number()),
         }
     }
     at

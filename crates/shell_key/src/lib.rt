@@ -39,7 +39,7 @@ fn put_parsed(out: &mut [u8], line: &[u8], w: Parts) -> usize {
     let k = script_parts::key(line, w, 1);
     match key_calls::parse_internal_key(k.key) {
         Ok(p) => put_parts(out, p),
-        Err(r) => script_lines::put_refused(out, 0, r),
+        Err(r) => script_lines::put_refused(out, 0, r.number()),
     }
 }
 

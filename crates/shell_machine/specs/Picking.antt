@@ -28,6 +28,10 @@ range_pick s maximum line =
     (key_of (internal_key line (word_at line 2).from (word_at line 2).to).key)
     (key_of (internal_key line (word_at line 3).from (word_at line 3).to).key)))
 
+-- the maximum file size that a line names: its first word after the command's name
+abbrev pub named_maximum : List ℕ → ℕ
+named_maximum line = (number_word (word_of line (word_at line 1).from (word_at line 1).to)).value
+
 -- p: by size; any other letter: of a range
 unfoldable pub picked_by : Store → ℕ → List ℕ → ℕ → Result Pick Refusal
 picked_by s maximum line which = cond (eqb which 112) (size_pick s maximum) (range_pick s maximum line)

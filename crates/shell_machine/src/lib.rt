@@ -6,7 +6,7 @@ ghost use Rattle.shell_edit.specs.Changes.{changed_by};
 ghost use Rattle.shell_file.specs.Opening.{Left};
 ghost use Rattle.shell_follow.specs.Following.{Stays};
 ghost use Rattle.shell_machine.specs.Machine.{Fresh, store_by, last_by};
-ghost use Rattle.shell_machine.specs.Picking.{range_pick, picked_by};
+ghost use Rattle.shell_machine.specs.Picking.{range_pick, named_maximum, picked_by};
 
 use answers::Refusal;
 use pick_answer::Pick;
@@ -87,7 +87,7 @@ fn pick_next(out: &mut [u8], m: Machine, line: &[u8], which: u8) -> Machine
     ensures { (result.at ≤ length out.new) × (result.store ≡ store_by m.store (picked_by m.store m.maximum line.now which)) × (result.maximum ≡ m.maximum) × (result.last ≡ last_by m.last (picked_by m.store m.maximum line.now which)) }
 {
     let r = picked(m.store, m.maximum, line, which);
-    let at = shell_pick::put_pick(out, r);
+    let at = shell_pick::put_pick(out, &r);
     match r {
         Ok(pick) => Machine {
             store: pick.store,
@@ -139,6 +139,7 @@ fn settle(out: &mut [u8], m: Machine, line: &[u8], which: u8) -> Machine
     ensures within { result.at ≤ length out.new }
     ensures fresh { which ≡ 110 → Fresh m.maximum result }
     ensures kept { which ≢ 110 → (result.store ≡ m.store) × (result.last ≡ m.last) }
+    ensures named { which ≢ 110 → result.maximum ≡ named_maximum line.now }
 {
     let end = script_lines::put(out, 0, b"ok");
     let at = script_lines::within(out, end);

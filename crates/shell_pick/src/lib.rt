@@ -90,12 +90,12 @@ fn put_line(out: &mut [u8], c: Picked, pointers: [Pointer; Level::COUNT]) -> usi
 }
 
 // The line of a pick, with the pointers of the store that it leaves, or the refusal; it ends within the bytes.
-pub fn put_pick(out: &mut [u8], p: Result<Pick, Refusal>) -> usize
+pub fn put_pick(out: &mut [u8], p: &Result<Pick, Refusal>) -> usize
     ensures { result ≤ length out.new }
 {
     let at = match p {
         Ok(pick) => put_line(out, pick.picked, pick.store.pointers),
-        Err(r) => script_lines::put_refused(out, 0, r),
+        Err(r) => script_lines::put_refused(out, 0, r.number()),
     };
     script_lines::within(out, at)
 }

@@ -96,7 +96,7 @@ pub fn put_said(out: &mut [u8], said: Said) -> usize
         Said::Mark(b) => script_lines::put_byte(out, 0, b),
         Said::Number(n) => script_lines::put_number(out, 0, n),
         Said::Next(n) => put_next(out, n),
-        Said::Denied(r) => script_lines::put_refused(out, 0, r),
+        Said::Denied(r) => script_lines::put_refused(out, 0, r.number()),
     }
 }
 
@@ -136,7 +136,11 @@ pub fn put_column(out: &mut [u8], start: usize, column: &[u64]) -> usize
 pub fn numbers_of(files: [FileRecord; Version::ROOM]) -> [u64; Version::ROOM]
     ensures { result ≡ map number_of files }
 {
-    files.map(|f| f.number.0)
+    let mut column = [0u64; Version::ROOM];
+    for (n, f) in files.iter().enumerate() {
+        column[n] = f.number.0;
+    }
+    column
 }
 
 // The numbers of the records from a place up to another, joined by commas; `-` for none.

@@ -4,7 +4,6 @@ use Rattle.lemmas.specs.Little.{bytes}
 use Rattle.lemmas.specs.Slices.{put}
 use Rattle.model.specs.Snapshot.{byte_long}
 use Rattle.model_replay.specs.Recording.{asks_count, asked_form}
-use Rattle.answers.specs.declared.Refusal.{Refusal}
 use Rattle.replay_given.specs.Given.{plain_given, given_bytes}
 use Rattle.replay_given.specs.GivenLaws.{plain_long}
 use Rattle.recorder.specs.declared.Counter.{Counter}
@@ -13,7 +12,7 @@ use Rattle.recorder.specs.RecorderLaws.{longest_entry, count_long_lem, count_lai
 use Rattle.recorder.proofs.count_entry.Goals as goal
 
 -- room of the longest entry's length has room for the entry
-fits : (k : Counter) (n : ℕ) (o : Result Unit Refusal) (own : List ℕ) → length own ≡ longest_entry
+fits : (k : Counter) (n : ℕ) (o : Result Unit ℕ) (own : List ℕ) → length own ≡ longest_entry
     → length (asked_form.write (asks_count (counter_call k n))) + length (given_bytes (plain_given o)) ≤ length own
 fits k n o own q = omega (arith, q, count_long_lem k n, plain_long o)
 

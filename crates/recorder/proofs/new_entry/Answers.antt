@@ -2,14 +2,13 @@
 use Rattle.std.proofs.Common.{◌≡◌, ℕ, ◌+◌, ◌-◌, ◌≤◌, List, length, take, sym, Result, rules, arith}
 use Rattle.model.specs.Counters.{new}
 use Rattle.model_replay.specs.Recording.{asks_count, asked_form}
-use Rattle.answers.specs.declared.Refusal.{Refusal}
 use Rattle.keys.specs.declared.FileNumber.{FileNumber}
 use Rattle.replay_given.specs.Given.{handed_given, given_bytes}
 use Rattle.recorder.specs.RecorderLaws.{longest_entry, new_long, new_laid, handed_long, entry_laid, entry_said}
 use Rattle.recorder.proofs.new_entry.Goals as goal
 
 -- room of the longest entry's length has room for the entry
-fits : (o : Result FileNumber Refusal) (own : List ℕ) → length own ≡ longest_entry → length (asked_form.write (asks_count new)) + length (given_bytes (handed_given o)) ≤ length own
+fits : (o : Result FileNumber ℕ) (own : List ℕ) → length own ≡ longest_entry → length (asked_form.write (asks_count new)) + length (given_bytes (handed_given o)) ≤ length own
 fits o own q = omega (arith, q, new_long, handed_long o)
 
 pub put_handed-n-requires : goal.put_handed-n-requires

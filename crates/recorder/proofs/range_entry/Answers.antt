@@ -3,7 +3,6 @@ use Rattle.std.proofs.Common.{◌≡◌, ℕ, ◌+◌, ◌-◌, ◌≤◌, true,
 use Rattle.keys.specs.Key.{key_of}
 use Rattle.keys.specs.declared.Key.{Key}
 use Rattle.model_replay.specs.Recording.{asks_range, asked_form}
-use Rattle.answers.specs.declared.Refusal.{Refusal}
 use Rattle.answers.specs.declared.Refusal.TheVariants.{Form}
 use Rattle.pick_answer.specs.declared.Picked.{Picked}
 use Rattle.snapshot_write.specs.WritingLaws.{said_refused}
@@ -13,7 +12,7 @@ use Rattle.recorder.specs.RecorderLaws.{longest_entry, kept_fits, kept_laid, ran
 use Rattle.recorder.proofs.range_entry.Goals as goal
 
 -- room of the longest entry's length has room for the entry
-fits : (level : ℕ) (start stop : Key) (o : Result Picked Refusal) → can_tell o ≡ true → (own : List ℕ) → length own ≡ longest_entry
+fits : (level : ℕ) (start stop : Key) (o : Result Picked ℕ) → can_tell o ≡ true → (own : List ℕ) → length own ≡ longest_entry
     → length (asked_form.write (asks_range level (key_of start) (key_of stop))) + length (given_bytes (picked_given o)) ≤ length own
 fits level start stop o t own q = omega (arith, q, keys_most level start stop, told_long o t)
 

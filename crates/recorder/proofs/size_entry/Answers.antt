@@ -1,7 +1,6 @@
 -- `size_entry` meets its contract: 14, or the call and what was picked are laid in room of their own, and handed out. Assumes nothing.
 use Rattle.std.proofs.Common.{◌≡◌, ℕ, ◌+◌, ◌-◌, ◌≤◌, true, List, length, take, sym, ◌∙◌, Result, rules, arith}
 use Rattle.model_replay.specs.Recording.{asks_size, asked_form}
-use Rattle.answers.specs.declared.Refusal.{Refusal}
 use Rattle.answers.specs.declared.Refusal.TheVariants.{Form}
 use Rattle.pick_answer.specs.declared.Picked.{Picked}
 use Rattle.snapshot_write.specs.WritingLaws.{said_refused}
@@ -11,7 +10,7 @@ use Rattle.recorder.specs.RecorderLaws.{longest_entry, size_long, size_laid, tol
 use Rattle.recorder.proofs.size_entry.Goals as goal
 
 -- room of the longest entry's length has room for the entry
-fits : (o : Result Picked Refusal) → can_tell o ≡ true → (own : List ℕ) → length own ≡ longest_entry → length (asked_form.write asks_size) + length (given_bytes (picked_given o)) ≤ length own
+fits : (o : Result Picked ℕ) → can_tell o ≡ true → (own : List ℕ) → length own ≡ longest_entry → length (asked_form.write asks_size) + length (given_bytes (picked_given o)) ≤ length own
 fits o t own q = omega (arith, q, size_long, told_long o t)
 
 pub returns-then-not-can_tell : goal.returns-then-not-can_tell

@@ -1,10 +1,11 @@
 -- `make_range` meets its contract. Assumes nothing.
-use Rattle.std.proofs.Common.{◌≡◌, ℕ, ◌+◌, true, List, [], drop, Result, Ok, Err}
+use Rattle.std.proofs.Common.{◌≡◌, ℕ, ◌+◌, true, List, [], drop, Result, Ok, Err, sym, ◌∙◌}
 use Rattle.model.specs.Snapshot.{number_long, read_key}
 use Rattle.model.specs.File.{full}
 use Rattle.model.specs.Pick.{manual_pick}
 use Rattle.model_replay.specs.Held.{held_key}
 use Rattle.model_replay.specs.Takes.{key_takes, part_takes}
+use Rattle.answers.specs.Outcome.{number_of}
 use Rattle.answers.specs.declared.Refusal.{Refusal}
 use Rattle.keys.specs.Key.{key_of, key_record}
 use Rattle.pick_answer.specs.declared.Pick.{Pick}
@@ -15,10 +16,10 @@ use Rattle.replay_scan.specs.Scan.{passed_by}
 use Rattle.store.specs.declared.Store.{Store}
 use Rattle.store.specs.Store.{well_store, on_store, StoreShape}
 use Rattle.store.proofs.Shape.{shape}
-use Rattle.replay_given.specs.Given.{picked_given}
+use Rattle.replay_given.specs.Given.{said_by, plain_given, picked_given}
 use Rattle.replay_call.specs.Call.{value_or, Begins, range_in}
 use Rattle.replay_call.specs.MadeLaws.{MakesPick}
-use Rattle.replay_call.specs.StepLaws.{range_start, range_stop, range_is, picked_fits, made_laid, range_makes}
+use Rattle.replay_call.specs.StepLaws.{range_start, range_stop, range_is, plain_fits, picked_fits, made_laid, range_makes}
 use Rattle.replay_call.proofs.make_range.Goals as goal
 
 -- what a key's reading says: the key, and the place after it
@@ -39,34 +40,30 @@ key_at-start-requires c = range_start c.requires.1
 pub key_at-stop-requires : goal.key_at-stop-requires
 key_at-stop-requires c = rw c.key_at-start.ensures.1 (range_stop c.requires.1)
 
-pub put_picked-requires : goal.put_picked-requires
-put_picked-requires c =
+pub put_pick-requires : goal.put_pick-requires
+put_pick-requires c =
     let a = c.args in
     let p = c.in-Ok.p in
     let m = made a.s (shape a.s _ c.well_formed.0) c.requires.0 a.src.now a.at a.maximum c.get_number-level.result c.requires.1 c.get_number-level.ensures c.key_at-start.result c.key_at-stop.result c.key_at-start.ensures c.key_at-stop.ensures
-    (Ok p) c.in-Ok.ensures in
+    (Ok p) (sym c.in-Ok.is ∙ c.compact_range.ensures) in
     (m.tells, picked_fits (Ok p.picked) a.room.now m.tells c.requires.2)
 
-pub put_picked-requires-in-Err : goal.put_picked-requires-in-Err
-put_picked-requires-in-Err c =
-    let a = c.args in
-    let r = c.in-Err.r in
-    let m = made a.s (shape a.s _ c.well_formed.0) c.requires.0 a.src.now a.at a.maximum c.get_number-level.result c.requires.1 c.get_number-level.ensures c.key_at-start.result c.key_at-stop.result c.key_at-start.ensures c.key_at-stop.ensures
-    (Err r) c.in-Err.ensures in
-    (m.tells, picked_fits (Err r) a.room.now m.tells c.requires.2)
+pub put_plain-requires : goal.put_plain-requires
+put_plain-requires c = plain_fits (Err c.number.result) c.args.room.now c.requires.2
 
 pub returns-in-Ok : goal.returns-in-Ok
 returns-in-Ok c =
     let a = c.args in
     let p = c.in-Ok.p in
     let m = made a.s (shape a.s _ c.well_formed.0) c.requires.0 a.src.now a.at a.maximum c.get_number-level.result c.requires.1 c.get_number-level.ensures c.key_at-start.result c.key_at-stop.result c.key_at-start.ensures c.key_at-stop.ensures
-    (Ok p) c.in-Ok.ensures in
-    made_laid a.s (range_in a.maximum (drop a.at a.src.now)) p.store (picked_given (Ok p.picked)) a.room.now c.put_picked.new.out c.put_picked.result m.made c.put_picked.ensures
+    (Ok p) (sym c.in-Ok.is ∙ c.compact_range.ensures) in
+    made_laid a.s (range_in a.maximum (drop a.at a.src.now)) p.store (picked_given (Ok p.picked)) a.room.now c.put_pick.new.out c.put_pick.result m.made c.put_pick.ensures
 
 pub returns-in-Err : goal.returns-in-Err
+unfolding said_by
 returns-in-Err c =
     let a = c.args in
     let r = c.in-Err.r in
     let m = made a.s (shape a.s _ c.well_formed.0) c.requires.0 a.src.now a.at a.maximum c.get_number-level.result c.requires.1 c.get_number-level.ensures c.key_at-start.result c.key_at-stop.result c.key_at-start.ensures c.key_at-stop.ensures
-    (Err r) c.in-Err.ensures in
-    made_laid a.s (range_in a.maximum (drop a.at a.src.now)) a.s (picked_given (Err r)) a.room.now c.put_picked-in-Err.new.out c.put_picked-in-Err.result m.made c.put_picked-in-Err.ensures
+    (Err r) (sym c.in-Err.is ∙ c.compact_range.ensures) in
+    made_laid a.s (range_in a.maximum (drop a.at a.src.now)) a.s (plain_given (Err (number_of r))) a.room.now c.put_plain.new.out c.put_plain.result m.made (rw c.number.ensures at c.put_plain.ensures)

@@ -24,7 +24,7 @@ put_number-requires-in-Ok c =
 
 pub put_refused-requires : goal.put_refused-requires
 put_refused-requires c =
-    let n = ap length (refused_given (λ (x : FileNumber). handed x.0) c.args.o c.in-Err.r c.in-Err.is) in
+    let n = ap length (refused_given (λ (x : FileNumber). handed x.0) c.args.o c.in-Err.n c.in-Err.is) in
     omega arith
 
 pub returns-in-Ok : goal.returns-in-Ok
@@ -38,4 +38,4 @@ returns-in-Ok c =
     (omega arith, numbered_laid bs handed_tag number_long x.0 done a.out.now o c.put_number-in-Ok.new.out a.at (omega arith) c.put_number.ensures c.put_number-in-Ok.ensures)
 
 pub returns-in-Err : goal.returns-in-Err
-returns-in-Err c = rw (refused_given (λ (x : FileNumber). handed x.0) c.args.o c.in-Err.r c.in-Err.is) c.put_refused.ensures
+returns-in-Err c = rw (refused_given (λ (x : FileNumber). handed x.0) c.args.o c.in-Err.n c.in-Err.is) c.put_refused.ensures

@@ -14,7 +14,7 @@ put_number-requires c =
 
 pub put_refused-requires : goal.put_refused-requires
 put_refused-requires c =
-    let n = ap length (refused_given (λ (u : Unit). accepted) c.args.o c.in-Err.r c.in-Err.is) in
+    let n = ap length (refused_given (λ (u : Unit). accepted) c.args.o c.in-Err.n c.in-Err.is) in
     omega arith
 
 pub returns-in-Ok : goal.returns-in-Ok
@@ -26,4 +26,4 @@ returns-in-Ok c =
     (omega arith, bare_laid bs accepted_tag done a.out.now c.put_number.new.out a.at c.put_number.ensures)
 
 pub returns-in-Err : goal.returns-in-Err
-returns-in-Err c = rw (refused_given (λ (u : Unit). accepted) c.args.o c.in-Err.r c.in-Err.is) c.put_refused.ensures
+returns-in-Err c = rw (refused_given (λ (u : Unit). accepted) c.args.o c.in-Err.n c.in-Err.is) c.put_refused.ensures

@@ -5,4 +5,4 @@ use Rattle.script_lines.proofs.put_refused.Goals as goal
 
 pub returns : goal.returns
 unfolding refused_text
-returns c = rw (← c.number.ensures, ← c.from.ensures) (laid_then c.put-to.ensures c.put_number.ensures)
+returns c = rw (← c.from.ensures) (laid_then c.put-to.ensures c.put_number.ensures)
