@@ -55,7 +55,7 @@ fn put_still<R: Files>(
     shell_answer::put_asked(out, s, line, c)
 }
 
-// Answers a line. The machine is lent, so that a line that leaves it as it is copies nothing of it.
+// Answers a line. The machine is lent, so that a line copies no more of it than it asks about or changes.
 fn answer<R: Files>(rt: &R, out: &mut [u8], kept: &mut [u8], m: &mut Machine, line: &[u8]) {
     match shell_answer::begin(out, line) {
         Begun::Silent => {}
